@@ -1,0 +1,8 @@
+//! Sorts of a many-sorted language with sort variables, and signatures over them.
+#![tactic(auto)]
+
+pub mod signature;
+pub mod sorts;
+
+pub use signature::Symbol;
+pub use sorts::{SVar, Sort, Sym};

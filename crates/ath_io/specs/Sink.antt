@@ -1,5 +1,5 @@
 -- What a sink holds, and what a put makes of it.
-use Rattle.std.specs.Prelude.{◌≡◌, ℕ, List, ◌++◌, take, Option, Some, None, Result, Ok, Err}
+use Rattle.std.specs.Prelude.{◌≡◌, ℕ, List, [], ◌∷◌, ◌++◌, take, Option, Some, None, Result, Ok, Err}
 use Rattle.ath_io.specs.Faults.{one_more}
 
 -- the bytes, and how many puts were made
@@ -16,3 +16,8 @@ taking (Some held) bytes = Some (record { bytes = held.bytes ++ bytes; puts = on
 abbrev pub Puts : {E : Type 0} → Option Held → List ℕ → Result (Unit {0}) E → Option Held → Type 0
 Puts before bytes (Ok _) after = after ≡ taking before bytes
 Puts before bytes (Err _) after = (count : ℕ) × (after ≡ taking before (take count bytes))
+
+-- after puts that took these pieces, one after the other
+abbrev pub taking_all : Option Held → List (List ℕ) → Option Held
+taking_all told [] = told
+taking_all told (bytes ∷ pieces) = taking_all (taking told bytes) pieces

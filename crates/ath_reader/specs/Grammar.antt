@@ -52,11 +52,12 @@ declared_in [] = []
 declared_in (s ∷ steps) = declared_by s.deed ++ declared_in steps
 
 abbrev pub is_listed : List ℕ → List (List ℕ) → Bool
-is_listed name names = list_any (λ other. bytes_eq other name) names
+is_listed word words = list_any (λ other. bytes_eq other word) words
 
-abbrev pub are_distinct : List (List ℕ) → Bool
-are_distinct [] = true
-are_distinct (name ∷ names) = not (is_listed name names) && are_distinct names
+-- none of the names is among those before it, of which these are seen already
+abbrev pub are_all_new : List (List ℕ) → List (List ℕ) → Bool
+are_all_new seen [] = true
+are_all_new seen (word ∷ words) = not (is_listed word seen) && are_all_new (seen ++ word ∷ []) words
 
 -- a text of this form: UTF-8 of at most 65,536 bytes, nested at most 500 deep, that declares no name twice
 pub record IsScript (text : List ℕ) (steps : List Step) : Type 0 where
@@ -66,4 +67,4 @@ pub record IsScript (text : List ℕ) (steps : List Step) : Type 0 where
   pub cut : tokens_of text ≡ Some tokens
   pub nested : is_nested_within 500 0 tokens ≡ true
   pub spelled : AreSteps tokens steps
-  pub distinct : are_distinct (declared_in steps) ≡ true
+  pub distinct : are_all_new [] (declared_in steps) ≡ true

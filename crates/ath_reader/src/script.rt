@@ -1,6 +1,5 @@
 // Scripts as trees.
 
-
 use ath_syntax::Pos;
 use sqlite_items::{Boxed, Items};
 

@@ -1,7 +1,4 @@
-use Rattle.std.proofs.Common.{◌≡◌, ◌<◌, ◌∷◌, true, length, sym, ◌∙◌, ap, arith, rules}
-use Rattle.std.specs.Borrow.{Bor}
-use Rattle.ath_reader.specs.declared.token.Token.{Token}
-use Rattle.ath_reader.specs.Words.{is_constant_name}
+use Rattle.std.proofs.Common.{◌<◌, length, sym, ◌∙◌, ap, arith, rules}
 use Rattle.ath_reader.specs.Script.{tree_of}
 use Rattle.ath_reader.proofs.Trees.{tree_of-name, tree_of-if}
 use Rattle.ath_reader.proofs.Expressions.{a_word, no_second, no_last, whole, shorter}

@@ -1,4 +1,4 @@
-use Rattle.std.proofs.Common.{◌≡◌, ◌+◌, length, get_or, drop, sym, arith}
+use Rattle.std.proofs.Common.{◌+◌, get_or, drop, sym, arith}
 use Rattle.ath_reader.specs.Tokens.{tokens_of}
 use Rattle.ath_reader.proofs.Steps.{tokens_on, tokens_off, place_after-line, place_after-col, front_byte}
 use Rattle.ath_reader.proofs.token.tokens.Goals as goal

@@ -1,6 +1,7 @@
 //! Sorts of a many-sorted language with sort variables, and signatures over them.
 #![tactic(auto)]
 
+pub mod limits;
 pub mod signature;
 pub mod sorts;
 

@@ -1,3 +1,5 @@
 pub mod Sorts
 pub mod Limits
 pub mod Signature
+pub mod Kept
+pub mod Declaring

@@ -5,5 +5,5 @@ pub mod limits;
 pub mod signature;
 pub mod sorts;
 
-pub use signature::Symbol;
+pub use signature::{SigError, Signature, Symbol};
 pub use sorts::{SVar, Sort, Sym};

@@ -1,1 +1,3 @@
 pub mod SignatureLaws
+pub mod SortLaws
+pub mod SubstitutionLaws

@@ -3,3 +3,4 @@ pub mod Limits
 pub mod Signature
 pub mod Kept
 pub mod Declaring
+pub mod Substitutions

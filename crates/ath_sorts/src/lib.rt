@@ -4,6 +4,8 @@
 pub mod limits;
 pub mod signature;
 pub mod sorts;
+pub mod substitution;
 
 pub use signature::{SigError, Signature, Symbol};
 pub use sorts::{SVar, Sort, Sym};
+pub use substitution::{SortSubst, UnifyError};

@@ -23,7 +23,7 @@ pub fn is_within_limits(sort: &Sort) -> bool
 }
 
 /// What a budget of nodes leaves after the sort's own, or None where it doesn't suffice.
-fn nodes_left(sort: &Sort, budget: usize) -> Option<usize>
+pub(crate) fn nodes_left(sort: &Sort, budget: usize) -> Option<usize>
     ensures { SomeIff result (size_of sort.now ≤ budget) (budget - size_of sort.now) }
 {
     if budget == 0 {
@@ -41,7 +41,7 @@ fn nodes_left(sort: &Sort, budget: usize) -> Option<usize>
     }
 }
 
-fn is_depth_within(sort: &Sort, most: usize) -> bool
+pub(crate) fn is_depth_within(sort: &Sort, most: usize) -> bool
     ensures { IsTrue result ↔ (depth_of sort.now ≤ most) }
 {
     if most == 0 {

@@ -4,3 +4,7 @@ pub mod Signature
 pub mod Kept
 pub mod Declaring
 pub mod Substitutions
+pub mod Unifiers
+pub mod Instances
+pub mod Matching
+pub mod Laws

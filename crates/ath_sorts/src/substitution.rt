@@ -1,6 +1,6 @@
 // Sort substitutions.
 
-ghost use Rattle.std.specs.Prelude.{◌≡◌, ◌-◌, ◌≤◌, IsTrue, ◌↔◌, SomeIff, IfOk, map};
+ghost use Rattle.std.specs.Prelude.{◌≡◌, ◌++◌, ◌∷◌, [], OnOk, ◌-◌, ◌≤◌, IsTrue, ◌↔◌, SomeIff, IfOk, map};
 ghost use Rattle.std.specs.Option.{option_copied};
 ghost use Rattle.ath_sorts.specs.Sorts.{image, apply_to, size_of, depth_of};
 ghost use Rattle.ath_sorts.specs.Limits.{is_small};
@@ -55,6 +55,23 @@ impl Model for SortSubst {
 }
 
 impl SortSubst {
+    /// The map without entries.
+    pub(crate) fn new(alloc: Global) -> SortSubst
+        ensures { result ≡ [] }
+    {
+        SortSubst {
+            entries: Vec::new(alloc),
+        }
+    }
+
+    /// Adds an entry behind those that are there.
+    pub(crate) fn push(&mut self, v: SVar, sort: Sort) -> Result<(), AllocError>
+        ensures { OnOk result (self.new ≡ self.old ++ (v, sort) ∷ []) }
+    {
+        self.entries.push((v, sort))?;
+        Ok(())
+    }
+
     /// The sort that the variable is mapped to, where it is in the map.
     pub fn get(&self, v: SVar) -> Option<&Sort>
         ensures { option_copied result ≡ entry_of self.now v }

@@ -4,3 +4,4 @@ pub mod Trees
 pub mod NameLists
 pub mod Deeds
 pub mod Directives
+pub mod Bytes

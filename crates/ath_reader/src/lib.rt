@@ -6,4 +6,5 @@ pub mod names;
 pub mod parse;
 pub mod read;
 pub mod script;
+pub mod text;
 pub mod token;

@@ -7,15 +7,10 @@ ghost use Rattle.ath_reader.specs.Readings.{TakesWord, TakesOpen, TakesClose, Ta
 
 use crate::names::is_constant;
 use crate::script::{Expr, What};
+use crate::text::Text;
 use crate::token::Token;
 use sqlite_items::{Boxed, Items};
 use std::alloc::{AllocError, Global};
-
-fn copied(alloc: Global, word: &Items<u8>) -> Result<Items<u8>, AllocError>
-    ensures { IfOk result (λ copy. copy ≡ word.now) }
-{
-    Items::from_slice(alloc, word.as_slice())
-}
 
 /// The tokens behind this word, where they begin with it.
 fn behind_word<'a>(tokens: &'a [Token], text: &str) -> Option<&'a [Token]>
@@ -24,7 +19,7 @@ fn behind_word<'a>(tokens: &'a [Token], text: &str) -> Option<&'a [Token]>
     let (first, rest) = tokens.split_first()?;
     match first {
         Token::Word(word, _) => {
-            if word.as_slice() == text.as_bytes() {
+            if word.as_bytes() == text.as_bytes() {
                 return Some(rest);
             }
             None
@@ -78,8 +73,8 @@ fn expression<'a>(
     };
     match first {
         Token::Word(word, at) => {
-            if is_constant(word.as_slice()) {
-                let name = copied(alloc, word)?;
+            if is_constant(word.as_bytes()) {
+                let name = Text::from_str(alloc, word.as_str())?;
                 return Ok(Some((Expr::Name(name, *at), rest)));
             }
             Ok(None)
@@ -110,7 +105,7 @@ fn expression<'a>(
 fn constant_name<'a>(
     alloc: Global,
     tokens: &'a [Token],
-) -> Result<Option<(Items<u8>, &'a [Token])>, AllocError>
+) -> Result<Option<(Text, &'a [Token])>, AllocError>
     ensures { IfOk result (ReadsName tokens.now) }
 {
     let Some((first, rest)) = tokens.split_first() else {
@@ -118,8 +113,8 @@ fn constant_name<'a>(
     };
     match first {
         Token::Word(word, _) => {
-            if is_constant(word.as_slice()) {
-                let name = copied(alloc, word)?;
+            if is_constant(word.as_bytes()) {
+                let name = Text::from_str(alloc, word.as_str())?;
                 return Ok(Some((name, rest)));
             }
             Ok(None)
@@ -132,7 +127,7 @@ fn constant_name<'a>(
 fn more_names<'a>(
     alloc: Global,
     tokens: &'a [Token],
-    names: &mut Items<Items<u8>>,
+    names: &mut Items<Text>,
 ) -> Result<Option<&'a [Token]>, AllocError>
     ensures { IfOk result (ReadsNames tokens.now names.old names.new) }
 {
@@ -155,7 +150,7 @@ fn more_names<'a>(
 fn declared_names<'a>(
     alloc: Global,
     tokens: &'a [Token],
-) -> Result<Option<(Items<Items<u8>>, &'a [Token])>, AllocError>
+) -> Result<Option<(Items<Text>, &'a [Token])>, AllocError>
     ensures { IfOk result (ReadsDeclared tokens.now) }
 {
     let mut names = Items::new(alloc);

@@ -8,6 +8,7 @@ ghost use Rattle.ath_reader.specs.Readings.{ReadsSteps, ReadsScript};
 
 use crate::parse::{behind_open, deed};
 use crate::script::{Directive, What};
+use crate::text::Text;
 use crate::token::{Token, tokens};
 use sqlite_items::Items;
 use std::alloc::{AllocError, Global};
@@ -52,26 +53,26 @@ fn directives(alloc: Global, tokens: &[Token]) -> Result<Option<Items<Directive>
     Ok(Some(directives))
 }
 
-fn is_among(word: &[u8], words: &[Items<u8>]) -> bool
+fn is_among(word: &[u8], words: &[Text]) -> bool
     ensures { result ≡ is_listed word.now words.now }
 {
-    words.iter().any(|other| other.as_slice() == word)
+    words.iter().any(|other| other.as_bytes() == word)
 }
 
 /// Whether none of the names is seen, nor comes twice; they are seen then.
 fn are_new(
     alloc: Global,
-    names: &[Items<u8>],
-    seen: &mut Items<Items<u8>>,
+    names: &[Text],
+    seen: &mut Items<Text>,
 ) -> Result<bool, AllocError>
     ensures answer { IfOk result (λ new. new ≡ are_all_new seen.old names.now) }
     ensures seen { IfOk result (λ new. new ≡ true → seen.new ≡ seen.old ++ names.now) }
 {
     for name in names {
-        if is_among(name.as_slice(), seen.as_slice()) {
+        if is_among(name.as_bytes(), seen.as_slice()) {
             return Ok(false);
         }
-        seen.push(Items::from_slice(alloc, name.as_slice())?)?;
+        seen.push(Text::from_str(alloc, name.as_str())?)?;
     }
     Ok(true)
 }
@@ -80,7 +81,7 @@ fn are_new(
 fn declares_new(
     alloc: Global,
     directive: &Directive,
-    seen: &mut Items<Items<u8>>,
+    seen: &mut Items<Text>,
 ) -> Result<bool, AllocError>
     ensures answer { IfOk result (λ new. new ≡ are_all_new seen.old (declared_by (deed_of directive.now.what))) }
     ensures seen { IfOk result (λ new. new ≡ true → seen.new ≡ seen.old ++ declared_by (deed_of directive.now.what)) }

@@ -1,19 +1,20 @@
 // Scripts as trees.
 
+use crate::text::Text;
 use ath_syntax::Pos;
 use sqlite_items::{Boxed, Items};
 
 /// An expression: the name of a constant at its place, or an implication.
 #[derive(Debug, Drop)]
 pub enum Expr {
-    Name(Items<u8>, Pos),
+    Name(Text, Pos),
     If(Boxed<Expr>, Boxed<Expr>),
 }
 
 /// What a directive says.
 #[derive(Debug, Drop)]
 pub enum What {
-    Declare(Items<Items<u8>>),
+    Declare(Items<Text>),
     Assert(Expr),
     Mp(Expr, Expr),
 }

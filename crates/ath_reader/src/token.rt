@@ -1,17 +1,17 @@
 // Tokens of a script.
 
-ghost use Rattle.std.specs.Prelude.{◌≡◌, ◌≤◌, ◌<◌, ◌^◌, length, IfOk};
+ghost use Rattle.std.specs.Prelude.{◌≡◌, ◌≤◌, ◌<◌, ◌^◌, length, IfOk, IsTrue};
 ghost use Rattle.std.specs.Option.{option_map};
 ghost use Rattle.ath_reader.specs.Tokens.{is_blank_byte, is_word_byte, begun, stepped, tokens_of, first_place, place_after, IsStep};
 
+use crate::text::Text;
 use ath_syntax::Pos;
-use sqlite_items::Items;
 use std::alloc::{AllocError, Global};
 
 /// A token and the place of its first byte. A word is kept by its bytes.
 #[derive(Debug, Drop)]
 pub enum Token {
-    Word(Items<u8>, Pos),
+    Word(Text, Pos),
     Open(Pos),
     Close(Pos),
     Bang(Pos),
@@ -22,7 +22,7 @@ pub enum Token {
 pub enum Mode {
     Between,
     Comment,
-    Word(Items<u8>, Pos),
+    Word(Text, Pos),
 }
 
 const FIRST_PLACE: Pos = Pos {
@@ -59,8 +59,10 @@ fn is_blank(b: u8) -> bool
 }
 
 /// Whether the byte may stand in a word.
+#[tactic(auto, using(crate::proofs::Bytes::word_byte_below))]
 fn is_word(b: u8) -> bool
-    ensures { result ≡ is_word_byte b }
+    ensures test { result ≡ is_word_byte b }
+    ensures ascii { IsTrue result → b < 128 }
 {
     b.is_ascii_lowercase()
         || b.is_ascii_uppercase()
@@ -91,7 +93,7 @@ fn begin(alloc: Global, at: Pos, b: u8, tokens: &mut Vec<Token>) -> Result<Optio
         return Ok(Some(Mode::Between));
     }
     if is_word(b) && b != b'\'' && b != b'?' {
-        let mut word = Items::new(alloc);
+        let mut word = Text::new(alloc);
         word.push(b)?;
         return Ok(Some(Mode::Word(word, at)));
     }

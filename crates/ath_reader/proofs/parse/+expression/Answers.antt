@@ -6,8 +6,8 @@ use Rattle.ath_reader.proofs.parse.+expression.Goals as goal
 
 pub returns-then-is_constant : goal.returns-then-is_constant
 returns-then-is_constant t c =
-    let f = rw c.as_slice.ensures at (sym c.is_constant.ensures ∙ c.if-is_constant.true) in
-    rw (tree_of-name c.in_ok-name-in-Word.name c.in-Word.at) (a_word c.args.tokens.now c.in-Some.rest.now c.in-Some.first.now c.in-Word.word c.in_ok-name-in-Word.name c.in-Word.at c.in-Some.ensures.cases.0 c.in-Word.is f c.in_ok-name-in-Word.ensures)
+    let f = rw c.as_bytes.ensures at (sym c.is_constant.ensures ∙ c.if-is_constant.true) in
+    rw (tree_of-name c.in_ok-name-in-Word.name c.in-Word.at) (a_word c.args.tokens.now c.in-Some.rest.now c.in-Some.first.now c.in-Word.word c.in_ok-name-in-Word.name c.in-Word.at c.in-Some.ensures.cases.0 c.in-Word.is f (c.in_ok-name-in-Word.ensures ∙ c.as_str.ensures))
 
 pub expression-requires-in-Open : goal.expression-requires-in-Open
 expression-requires-in-Open t c =

@@ -1,10 +1,11 @@
 -- What the code's values stand for.
-use Rattle.std.specs.Prelude.{◌≡◌, ℕ, ◌<◌, List, map, length}
+use Rattle.std.specs.Prelude.{◌≡◌, ℕ, ◌<◌, List, Option, Some, None, map, length}
 use Rattle.std.specs.List.{All}
 use Rattle.ath_sorts.specs.declared.sorts.Sym.{Sym}
 use Rattle.ath_syntax.specs.declared.place.Pos.{Pos}
 use Rattle.ath_terms.specs.declared.node.SentId.{SentId}
-use Rattle.ath_terms.specs.Tree.{Sent}
+use Rattle.ath_terms.specs.declared.node.Conn.TheVariants.{If}
+use Rattle.ath_terms.specs.Tree.{Sent, joined}
 use Rattle.ath_terms.specs.Trees.{Trees, sent_at, IsSent}
 use Rattle.ath_eval.specs.declared.event.Fault.{Fault}
 use Rattle.ath_eval.specs.declared.event.Fault.TheVariants.{Unbound, WrongShape, NotInBase, NotBuilt}
@@ -59,3 +60,8 @@ IsVerdict s (answer.Concludes p) (concludes x) = IsSent s p.0 x
 IsVerdict s (answer.Refuses why) (refuses other) = (refusal_of s why ≡ other) × IsFaultIn s why
 IsVerdict s (answer.Concludes p) (refuses other) = ⊥
 IsVerdict s (answer.Refuses why) (concludes x) = ⊥
+
+-- the parts of an implication, or none where the sentence is none
+abbrev pub AreParts : Trees → Sent → Option (SentId × SentId) → Type 0
+AreParts s p None = (a b : Sent) → p ≡ joined If a b → ⊥
+AreParts s p (Some x) = (x.0.0 < length s.sents) × ((x.1.0 < length s.sents) × (p ≡ joined If (sent_at s.sents x.0.0) (sent_at s.sents x.1.0)))

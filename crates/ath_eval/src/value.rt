@@ -7,7 +7,7 @@ ghost use Rattle.ath_terms.specs.Tree.{atom, constant, joined};
 ghost use Rattle.ath_terms.specs.declared.node.Conn.TheVariants.{If};
 ghost use Rattle.ath_reader.specs.Script.{tree_of};
 ghost use Rattle.ath_eval.specs.Eval.{is_constant, look_up, value_of, holds, modus_ponens};
-ghost use Rattle.ath_eval.specs.Stands.{sents_of, AreIn, IsValue, IsVerdict};
+ghost use Rattle.ath_eval.specs.Stands.{sents_of, AreIn, AreParts, IsValue, IsVerdict};
 
 use crate::event::Fault;
 use ath_names::Names;
@@ -76,4 +76,95 @@ fn add_implication(
     parts.push(q)?;
     let sent = store.add_sent(SentNode::Conn(Conn::If, parts))?;
     Ok(sent)
+}
+
+/// The value of an expression. The store grows by it.
+pub fn value(
+    alloc: Global,
+    names: &Names,
+    constants: &[Sym],
+    store: &mut Store,
+    expression: &Expr,
+) -> Result<Found, AllocError>
+    ensures grows { Grows store.old store.new }
+    ensures value { IfOk result (λ found. IsValue store.new found (value_of names.now constants.now (tree_of expression.now))) }
+{
+    match expression {
+        Expr::Name(word, at) => match find_constant(names, constants, word.as_bytes()) {
+            None => {
+                let word = Text::from_str(alloc, word.as_str())?;
+                Ok(Found::Unbound(word, *at))
+            }
+            Some(c) => {
+                let sent = add_constant(alloc, store, c)?;
+                Ok(Found::Sent(sent))
+            }
+        },
+        Expr::If(a, b) => {
+            let left = value(alloc, names, constants, store, a.get())?;
+            let Found::Sent(p) = left else {
+                return Ok(left);
+            };
+            let right = value(alloc, names, constants, store, b.get())?;
+            let Found::Sent(q) = right else {
+                return Ok(right);
+            };
+            let sent = add_implication(alloc, store, p, q)?;
+            Ok(Found::Sent(sent))
+        }
+    }
+}
+
+/// Whether the base has a sentence.
+fn is_in_base(store: &Store, base: &[SentId], p: SentId) -> bool
+    requires base { AreIn store.now base.now }
+    requires sent { p.0 < length store.now.sents }
+    ensures { result ≡ holds (sents_of store.now base.now) (sent_at store.now.sents p.0) }
+{
+    for q in base {
+        if is_same_sent(store, *q, p) {
+            return true;
+        }
+    }
+    false
+}
+
+/// Modus ponens of an implication and its premise.
+pub fn detach(store: &Store, base: &[SentId], p: SentId, q: SentId) -> Answer
+    requires base { AreIn store.now base.now }
+    requires implication { p.0 < length store.now.sents }
+    requires premise { q.0 < length store.now.sents }
+    ensures { IsVerdict store.now result (modus_ponens (sents_of store.now base.now) (sent_at store.now.sents p.0) (sent_at store.now.sents q.0)) }
+{
+    let (a, b) = match implication_parts(store, p) {
+        None => return Answer::Refuses(Fault::WrongShape(1)),
+        Some(parts) => parts,
+    };
+    if !is_same_sent(store, q, a) {
+        return Answer::Refuses(Fault::WrongShape(2));
+    }
+    if !is_in_base(store, base, p) {
+        return Answer::Refuses(Fault::NotInBase(p));
+    }
+    if !is_in_base(store, base, q) {
+        return Answer::Refuses(Fault::NotInBase(q));
+    }
+    Answer::Concludes(b)
+}
+
+/// The parts of an implication.
+fn implication_parts(store: &Store, p: SentId) -> Option<(SentId, SentId)>
+    requires { p.0 < length store.now.sents }
+    ensures { AreParts store.now (sent_at store.now.sents p.0) result }
+{
+    match store.sent(p) {
+        SentNode::Conn(conn, parts) => {
+            if *conn != Conn::If {
+                return None;
+            }
+            let parts = parts.as_slice();
+            Some((parts[0], parts[1]))
+        }
+        _ => None,
+    }
 }

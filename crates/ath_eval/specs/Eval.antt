@@ -82,23 +82,24 @@ pub record Ran : Type 0 where
   pub state : State
   pub event : Event
 
+-- a name joins the table, and its constant the declared ones
+abbrev pub number_in : State → List ℕ → Sym
+number_in st word = record { 0 = unwrap_or (number_of (interned st.names word) word) 0 }
+
 abbrev pub with_constant : State → List ℕ → State
-with_constant st word =
-    let names = interned st.names word in
-    record st { names = names; constants = st.constants ++ record { 0 = unwrap_or (number_of names word) 0 } ∷ [] }
+with_constant st word = record st { names = interned st.names word; constants = st.constants ++ number_in st word ∷ [] }
 
 abbrev pub with_constants : State → List (List ℕ) → State
 with_constants st [] = st
 with_constants st (word ∷ words) = with_constants (with_constant st word) words
 
+abbrev pub numbers_in : State → List (List ℕ) → List Sym
+numbers_in st [] = []
+numbers_in st (word ∷ words) = number_in st word ∷ numbers_in (with_constant st word) words
+
 -- a sentence that joins the base
 abbrev pub joining : State → Sent → State
 joining st p = record st { base = st.base ++ p ∷ [] }
-
--- the numbers of names that are in the table
-abbrev pub numbers_of : List (List ℕ) → List (List ℕ) → List Sym
-numbers_of names [] = []
-numbers_of names (word ∷ words) = record { 0 = unwrap_or (number_of names word) 0 } ∷ numbers_of names words
 
 abbrev pub ran_assert : State → Value → Ran
 ran_assert st (is p) = record { state = joining st p; event = asserted p }
@@ -115,7 +116,7 @@ ran_mp st at (is p) (is q) = ran_verdict st at (modus_ponens st.base p q)
 
 -- a directive adds constants, asserts a sentence, or concludes one; one that is refused leaves the state
 abbrev pub ran_deed : State → Pos → Deed → Ran
-ran_deed st at (declare words) = let after = with_constants st words in record { state = after; event = declared (numbers_of after.names words) }
+ran_deed st at (declare words) = record { state = with_constants st words; event = declared (numbers_in st words) }
 ran_deed st at (assert a) = ran_assert st (value_of st.names st.constants a)
 ran_deed st at (mp a b) = ran_mp st at (value_of st.names st.constants a) (value_of st.names st.constants b)
 

@@ -28,10 +28,14 @@ printed names (negated p) = codes "(not " ++ printed names p ++ codes ")"
 printed names (joined c p q) = codes "(" ++ conn_text c ++ codes " " ++ printed names p ++ codes " " ++ printed names q ++ codes ")"
 printed names (bound k v p) = []
 
+-- names with a comma and a space between them
+abbrev pub listed_after : List (List ℕ) → List Sym → List ℕ
+listed_after names [] = []
+listed_after names (n ∷ ns) = codes ", " ++ text_of names n ++ listed_after names ns
+
 abbrev pub listed : List (List ℕ) → List Sym → List ℕ
 listed names [] = []
-listed names (n ∷ []) = text_of names n
-listed names (n ∷ m ∷ ns) = text_of names n ++ codes ", " ++ listed names (m ∷ ns)
+listed names (n ∷ ns) = text_of names n ++ listed_after names ns
 
 abbrev pub hex_digit : ℕ → ℕ
 hex_digit d = if nat_lt d 10 then 48 + d else 87 + d

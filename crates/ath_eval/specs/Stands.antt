@@ -1,6 +1,8 @@
 -- What the code's values stand for.
-use Rattle.std.specs.Prelude.{◌≡◌, ℕ, ◌<◌, List, Option, Some, None, map, length}
-use Rattle.std.specs.List.{All}
+use Rattle.std.specs.Prelude.{◌≡◌, ℕ, ◌<◌, ◌≤◌, List, Option, Some, None, map, length}
+use Rattle.std.specs.List.{All, AllByRecursion}
+use Rattle.ath_reader.specs.Script.{Step}
+use Rattle.ath_reader.specs.Grammar.{declared_by}
 use Rattle.ath_sorts.specs.declared.sorts.Sym.{Sym}
 use Rattle.ath_syntax.specs.declared.place.Pos.{Pos}
 use Rattle.ath_terms.specs.declared.node.SentId.{SentId}
@@ -65,3 +67,14 @@ IsVerdict s (answer.Refuses why) (concludes x) = ⊥
 abbrev pub AreParts : Trees → Sent → Option (SentId × SentId) → Type 0
 AreParts s p None = (a b : Sent) → p ≡ joined If a b → ⊥
 AreParts s p (Some x) = (x.0.0 < length s.sents) × ((x.1.0 < length s.sents) × (p ≡ joined If (sent_at s.sents x.0.0) (sent_at s.sents x.1.0)))
+
+-- the state that these parts make
+abbrev pub state_of : List (List ℕ) → List Sym → Trees → List SentId → State
+state_of names constants s base = record { names = names; constants = constants; base = sents_of s base }
+
+-- no name is too long for the table
+abbrev pub AreShort : List (List ℕ) → Type 0
+AreShort words = AllByRecursion (λ w. length w ≤ 200) words
+
+abbrev pub IsShort : Step → Type 0
+IsShort step = AreShort (declared_by step.deed)

@@ -2,6 +2,8 @@
 #![tactic(auto)]
 
 pub mod event;
+pub mod print;
+pub mod session;
 pub mod status;
 pub mod value;
 

@@ -34,7 +34,7 @@ abbrev pub having_asked : ShelfState → List ℕ → ℕ → ShelfState
 having_asked shelf name faults = record {
   told = record { texts = shelf.told.texts; asked = shelf.told.asked ++ name ∷ [] };
   failing = shelf.failing;
-  faults = faults
+  faults = faults;
 }
 
 -- a fetch gives its answer or fails, each exactly where the answer says so; want of memory changes nothing

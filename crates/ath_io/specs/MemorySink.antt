@@ -38,5 +38,5 @@ after_put sink bytes = record {
   held = record { bytes = sink.held.bytes ++ taken_of sink bytes; puts = one_more sink.held.puts };
   room = sink.room;
   failing = sink.failing;
-  faults = if put_fails sink bytes then one_more sink.faults else sink.faults
+  faults = if put_fails sink bytes then one_more sink.faults else sink.faults;
 }

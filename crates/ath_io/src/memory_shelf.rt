@@ -26,9 +26,9 @@ impl Model for MemoryShelf {
     ghost Value = { ShelfState };
 
     ghost view = { λ s. record {
-        told = record { texts = entries s.texts.items; asked = map string_bytes s.asked.items };
-        failing = s.failing.items;
-        faults = s.faults
+      told = record { texts = entries s.texts.items; asked = map string_bytes s.asked.items };
+      failing = s.failing.items;
+      faults = s.faults;
     } };
 }
 

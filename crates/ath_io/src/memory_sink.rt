@@ -26,10 +26,10 @@ impl Model for MemorySink {
     ghost Value = { SinkState };
 
     ghost view = { λ s. record {
-        held = record { bytes = s.bytes.items; puts = s.puts };
-        room = s.room;
-        failing = s.failing.items;
-        faults = s.faults
+      held = record { bytes = s.bytes.items; puts = s.puts };
+      room = s.room;
+      failing = s.failing.items;
+      faults = s.faults;
     } };
 
     ghost invariant = { λ s. (length s.bytes.items ≤ s.room) × (s.room ≤ vec_capacity s.bytes) };
@@ -38,11 +38,7 @@ impl Model for MemorySink {
 impl MemorySink {
     /// A sink with room for so many bytes. Each pair is the number of a put that fails, where the first is number 1, and how
     /// many bytes it takes before.
-    pub fn new(
-        alloc: Global,
-        room: usize,
-        failing: Vec<(usize, usize)>,
-    ) -> Result<Self, AllocError>
+    pub fn new(alloc: Global, room: usize, failing: Vec<(usize, usize)>) -> Result<Self, AllocError>
         ensures { IfOk result (λ sink. sink ≡ new_sink room failing.items) }
     {
         let bytes = Vec::with_capacity(alloc, room)?;

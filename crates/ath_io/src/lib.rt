@@ -7,6 +7,8 @@ pub mod memory_sink;
 pub mod out_sink;
 pub mod shelf;
 pub mod sink;
+#[cfg(test)]
+mod tests;
 
 pub use dir_shelf::DirShelf;
 pub use memory_shelf::MemoryShelf;

@@ -26,12 +26,12 @@ abbrev pub next_number : ShelfState → ℕ
 next_number shelf = length shelf.told.asked + 1
 
 -- what the next fetch gives, where memory is found; none where its number is listed or the name isn't held
-abbrev pub answer_of : ShelfState → List ℕ → ℕ → Option (List ℕ)
-answer_of shelf name most = if list_any (λ number. number == next_number shelf) shelf.failing then None else front_of shelf.told.texts name most
+abbrev pub next_answer : ShelfState → List ℕ → ℕ → Option (List ℕ)
+next_answer shelf name most = if list_any (λ number. number == next_number shelf) shelf.failing then None else front_of shelf.told.texts name most
 
 -- one name more was asked, and this many fetches have failed
-abbrev pub having_asked : ShelfState → List ℕ → ℕ → ShelfState
-having_asked shelf name faults = record {
+abbrev pub shelf_after : ShelfState → List ℕ → ℕ → ShelfState
+shelf_after shelf name faults = record {
   told = record { texts = shelf.told.texts; asked = shelf.told.asked ++ name ∷ [] };
   failing = shelf.failing;
   faults = faults;
@@ -39,6 +39,6 @@ having_asked shelf name faults = record {
 
 -- a fetch gives its answer or fails, each exactly where the answer says so; want of memory changes nothing
 abbrev pub FetchesFromMemory : ShelfState → List ℕ → ℕ → Result (Vec ℕ Global) FetchError → ShelfState → Type 0
-FetchesFromMemory old name most (Ok bytes) new = (answer_of old name most ≡ Some bytes.items) × (new ≡ having_asked old name old.faults)
-FetchesFromMemory old name most (Err Failed) new = (answer_of old name most ≡ None) × (new ≡ having_asked old name (one_more old.faults))
+FetchesFromMemory old name most (Ok bytes) new = (next_answer old name most ≡ Some bytes.items) × (new ≡ shelf_after old name old.faults)
+FetchesFromMemory old name most (Err Failed) new = (next_answer old name most ≡ None) × (new ≡ shelf_after old name (one_more old.faults))
 FetchesFromMemory old name most (Err Memory) new = new ≡ old

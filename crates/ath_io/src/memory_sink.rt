@@ -3,7 +3,7 @@ ghost use Rattle.std.specs.Prelude.{◌≡◌, ◌≤◌, ◌↔◌, Some, IfOk,
 ghost use Rattle.std.specs.Option.{option_map};
 ghost use Rattle.ath_io.specs.Faults.{Rose};
 ghost use Rattle.ath_io.specs.Sink.{Puts};
-ghost use Rattle.ath_io.specs.MemorySink.{listed, new_sink, put_fails, after_put};
+ghost use Rattle.ath_io.specs.MemorySink.{listed_count, new_sink, put_fails, sink_after};
 
 use crate::sink::{PutFailed, Sink};
 use std::alloc::{AllocError, Global};
@@ -68,7 +68,7 @@ impl MemorySink {
 
 // How many bytes are listed for this number; of two pairs with one number the first counts.
 fn listed_for(failing: &[(usize, usize)], number: usize) -> Option<usize>
-    ensures { result ≡ listed failing.now number }
+    ensures { result ≡ listed_count failing.now number }
 {
     for pair in failing {
         if pair.0 == number {
@@ -88,7 +88,7 @@ impl Sink for MemorySink {
         ensures later { self.old.faults ≤ self.new.faults }
         ensures cause { OnErr result (Rose self.old.faults self.new.faults) }
         ensures fails { IsErr result ↔ IsTrue (put_fails self.old bytes.now) }
-        ensures after { self.new ≡ after_put self.old bytes.now }
+        ensures after { self.new ≡ sink_after self.old bytes.now }
     {
         let left = self.room - self.bytes.len();
         self.puts = self.puts.saturating_add(1);

@@ -2,30 +2,24 @@
 ghost use Rattle.std.specs.Prelude.{◌≡◌, ◌≤◌, ℕ, None, OnOk, OnErr, take};
 ghost use Rattle.std.specs.Io.KnownBytes.{Appends};
 ghost use Rattle.ath_io.specs.Faults.{one_more, Rose};
+ghost use Rattle.ath_io.specs.OutSink.{writer_of, fault_count};
 ghost use Rattle.ath_io.specs.Sink.{Puts};
 
 use crate::sink::{PutFailed, Sink};
 use std::io::{ErrorKind, Write};
-use std::marker::Model;
 
-/// A writer, as that of standard output. It tells nothing of what it took; contracts see the number of its faults alone.
+/// A writer, as that of standard output. It tells nothing of what it took, but where its writer tells that, a put's clauses
+/// say it.
 #[derive(Drop)]
 pub struct OutSink<W: Write + Drop> {
     writer: W,
     faults: u64,
 }
 
-impl<W: Write + Drop> Model for OutSink<W> {
-    ghost use Rattle.std.specs.Prelude.{ℕ};
-
-    ghost Value = { ℕ };
-
-    ghost view = { λ s. s.faults };
-}
-
 impl<W: Write + Drop> OutSink<W> {
     pub fn new(writer: W) -> Self
-        ensures { result ≡ 0 }
+        ensures writer { writer_of result ≡ writer }
+        ensures faults { fault_count result ≡ 0 }
     {
         OutSink { writer, faults: 0 }
     }
@@ -61,14 +55,16 @@ fn write_whole<W: Write>(writer: &mut W, bytes: &[u8]) -> Result<(), PutFailed>
 impl<W: Write + Drop> Sink for OutSink<W> {
     ghost told = { λ _. None };
 
-    ghost faults = { λ s. s };
+    ghost faults = { λ s. fault_count s };
 
     fn put(&mut self, bytes: &[u8]) -> Result<(), PutFailed>
         ensures taken { Puts None bytes.now result None }
-        ensures later { self.old ≤ self.new }
-        ensures cause { OnErr result (Rose self.old self.new) }
-        ensures kept { OnOk result (self.new ≡ self.old) }
-        ensures counted { OnErr result (self.new ≡ one_more self.old) }
+        ensures later { fault_count self.old ≤ fault_count self.new }
+        ensures cause { OnErr result (Rose (fault_count self.old) (fault_count self.new)) }
+        ensures written { OnOk result (Appends (W.contents (writer_of self.old)) (W.contents (writer_of self.new)) bytes.now) }
+        ensures front { OnErr result ((count : ℕ) × Appends (W.contents (writer_of self.old)) (W.contents (writer_of self.new)) (take count bytes.now)) }
+        ensures kept { OnOk result (fault_count self.new ≡ fault_count self.old) }
+        ensures counted { OnErr result (fault_count self.new ≡ one_more (fault_count self.old)) }
     {
         let written = write_whole(&mut self.writer, bytes);
         if written.is_err() {

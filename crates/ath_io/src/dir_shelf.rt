@@ -11,7 +11,8 @@ use std::marker::Model;
 use std::rt::Files;
 use std::{fs, io};
 
-/// The files by their paths. It tells nothing of what they hold; contracts see the number of its faults alone.
+/// The files by their paths. It tells nothing of what they hold, and contracts see the number of
+/// its faults alone.
 #[derive(Drop)]
 pub struct DirShelf<'a, R: Files> {
     files: &'a R,
@@ -27,6 +28,7 @@ impl<'a, R: Files> Model for DirShelf<'a, R> {
 }
 
 impl<'a, R: Files> DirShelf<'a, R> {
+    /// A shelf of the files that this runtime reaches, with no fault so far.
     pub fn new(rt: &'a R) -> Self
         ensures { result ≡ 0 }
     {
@@ -48,7 +50,8 @@ fn cause(error: &io::Error) -> FetchError {
 // At most `most` bytes of what is left, from its beginning.
 fn read_front<F: Read>(file: &mut F, alloc: Global, most: usize) -> Result<Vec<u8>, FetchError>
     ensures bound { IfOk result (λ bytes. vec_len bytes ≤ most) }
-    ensures content { IfOk result (λ bytes. IfSome (F.remaining file.old) (λ left. bytes.items ≡ take most left)) }
+    ensures content { IfOk result (λ bytes.
+        IfSome (F.remaining file.old) (λ left. bytes.items ≡ take most left)) }
 {
     let mut text = Vec::new(alloc);
     let mut chunk = [0u8; 4096];

@@ -1,4 +1,4 @@
-// A shelf in memory, for tests.
+// A shelf in memory.
 ghost use Rattle.std.specs.Prelude.{◌≡◌, ◌≤◌, map, take, string_bytes, Some, IfOk, IsErrOf, vec_len};
 ghost use Rattle.std.specs.Option.{option_copied};
 ghost use Rattle.ath_io.specs.declared.shelf.FetchError.TheVariants.{Failed};
@@ -10,7 +10,7 @@ use crate::shelf::{FetchError, Shelf};
 use std::alloc::{AllocError, Global};
 use std::marker::Model;
 
-/// Texts by name, with the numbers of the fetches that fail. It tells all of its content.
+/// Texts by name, with the numbers of the fetches that fail. It tells all that it holds.
 #[derive(Drop)]
 pub struct MemoryShelf {
     texts: Vec<(String, Vec<u8>)>,
@@ -33,7 +33,8 @@ impl Model for MemoryShelf {
 }
 
 impl MemoryShelf {
-    /// A shelf of these texts. The fetches of these numbers fail, where the first is number 1.
+    /// A shelf of these texts, of which the first of a name counts. The fetches of these numbers
+    /// fail, where the first fetch is number 1.
     pub fn new(alloc: Global, texts: Vec<(String, Vec<u8>)>, failing: Vec<usize>) -> Self
         ensures { result ≡ new_shelf (entries texts.items) failing.items }
     {
@@ -87,7 +88,8 @@ impl Shelf for MemoryShelf {
     fn fetch(&mut self, alloc: Global, name: &str, most: usize) -> Result<Vec<u8>, FetchError>
         ensures bound { IfOk result (λ bytes. vec_len bytes ≤ most) }
         ensures asked { Some self.new.told ≡ after_fetch (Some self.old.told) name.now result }
-        ensures content { IfOk result (λ bytes. IsFetched (Some self.old.told) name.now most bytes.items) }
+        ensures content { IfOk result (λ bytes.
+            IsFetched (Some self.old.told) name.now most bytes.items) }
         ensures later { self.old.faults ≤ self.new.faults }
         ensures cause { IsErrOf result Failed → Rose self.old.faults self.new.faults }
         ensures exact { FetchesFromMemory self.old name.now most result self.new }

@@ -1,4 +1,4 @@
-// A sink in memory, for tests.
+// A sink in memory.
 ghost use Rattle.std.specs.Prelude.{◌≡◌, ◌≤◌, ◌↔◌, Some, IfOk, IsTrue, IsErr, OnErr};
 ghost use Rattle.std.specs.Option.{option_map};
 ghost use Rattle.ath_io.specs.Faults.{Rose};
@@ -9,7 +9,8 @@ use crate::sink::{PutFailed, Sink};
 use std::alloc::{AllocError, Global};
 use std::marker::Model;
 
-/// Bytes up to a room that is made at the beginning, with the numbers of the puts that fail. It tells all of its content.
+/// Bytes up to a room that is made at the beginning, with the numbers of the puts that fail.
+/// It tells all that it holds.
 #[derive(Drop)]
 pub struct MemorySink {
     bytes: Vec<u8>,
@@ -36,8 +37,8 @@ impl Model for MemorySink {
 }
 
 impl MemorySink {
-    /// A sink with room for so many bytes. Each pair is the number of a put that fails, where the first is number 1, and how
-    /// many bytes it takes before.
+    /// A sink with room for so many bytes. Each pair is the number of a put that fails, where the
+    /// first put is number 1, and how many bytes that put takes.
     pub fn new(alloc: Global, room: usize, failing: Vec<(usize, usize)>) -> Result<Self, AllocError>
         ensures { IfOk result (λ sink. sink ≡ new_sink room failing.items) }
     {

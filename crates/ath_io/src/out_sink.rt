@@ -1,15 +1,14 @@
 // A writer as a sink.
 ghost use Rattle.std.specs.Prelude.{◌≡◌, ◌≤◌, ℕ, None, OnOk, OnErr, take};
-ghost use Rattle.std.specs.Io.KnownBytes.{Appends};
 ghost use Rattle.ath_io.specs.Faults.{one_more, Rose};
-ghost use Rattle.ath_io.specs.OutSink.{writer_of, fault_count};
+ghost use Rattle.ath_io.specs.OutSink.{writer_of, fault_count, Writes};
 ghost use Rattle.ath_io.specs.Sink.{Puts};
 
 use crate::sink::{PutFailed, Sink};
 use std::io::{ErrorKind, Write};
 
-/// A writer, as that of standard output. It tells nothing of what it took, but where its writer tells that, a put's clauses
-/// say it.
+/// A writer, as that of standard output. It tells nothing of what it took; where the writer itself
+/// tells that, a clause of `put` says it.
 #[derive(Drop)]
 pub struct OutSink<W: Write + Drop> {
     writer: W,
@@ -17,6 +16,7 @@ pub struct OutSink<W: Write + Drop> {
 }
 
 impl<W: Write + Drop> OutSink<W> {
+    /// A sink over this writer, with no fault so far.
     pub fn new(writer: W) -> Self
         ensures writer { writer_of result ≡ writer }
         ensures faults { fault_count result ≡ 0 }
@@ -25,10 +25,10 @@ impl<W: Write + Drop> OutSink<W> {
     }
 }
 
-// Writes all the bytes, or fails after a front of them. A write that takes none of some bytes is a failure.
+// Writes all the bytes, or fails after a front of them. A write that takes none of some bytes is a
+// failure.
 fn write_whole<W: Write>(writer: &mut W, bytes: &[u8]) -> Result<(), PutFailed>
-    ensures ok { OnOk result (Appends (W.contents writer.old) (W.contents writer.new) bytes.now) }
-    ensures err { OnErr result ((count : ℕ) × Appends (W.contents writer.old) (W.contents writer.new) (take count bytes.now)) }
+    ensures { Writes (W.contents writer.old) bytes.now result (W.contents writer.new) }
 {
     let mut rest = bytes;
     for _ in 0..u64::MAX {
@@ -61,8 +61,8 @@ impl<W: Write + Drop> Sink for OutSink<W> {
         ensures taken { Puts None bytes.now result None }
         ensures later { fault_count self.old ≤ fault_count self.new }
         ensures cause { OnErr result (Rose (fault_count self.old) (fault_count self.new)) }
-        ensures written { OnOk result (Appends (W.contents (writer_of self.old)) (W.contents (writer_of self.new)) bytes.now) }
-        ensures front { OnErr result ((count : ℕ) × Appends (W.contents (writer_of self.old)) (W.contents (writer_of self.new)) (take count bytes.now)) }
+        ensures written { Writes (W.contents (writer_of self.old)) bytes.now result
+            (W.contents (writer_of self.new)) }
         ensures kept { OnOk result (fault_count self.new ≡ fault_count self.old) }
         ensures counted { OnErr result (fault_count self.new ≡ one_more (fault_count self.old)) }
     {

@@ -20,14 +20,14 @@ abbrev pub front_of : List (List ℕ × List ℕ) → List ℕ → ℕ → Optio
 front_of texts name most = option_map (take most) (text_named texts name)
 
 -- the same texts, where they are told, and these names asked besides
-abbrev pub asking : Option Texts → List (List ℕ) → Option Texts
-asking None names = None
-asking (Some told) names = Some (record { texts = told.texts; asked = told.asked ++ names })
+abbrev pub with_asked : Option Texts → List (List ℕ) → Option Texts
+with_asked None names = None
+with_asked (Some told) names = Some (record { texts = told.texts; asked = told.asked ++ names })
 
 -- a fetch that isn't refused for want of memory adds its name to those asked
 abbrev pub after_fetch : {T : Type 0} → Option Texts → List ℕ → Result T FetchError → Option Texts
-after_fetch told name (Ok _) = asking told (name ∷ [])
-after_fetch told name (Err Failed) = asking told (name ∷ [])
+after_fetch told name (Ok _) = with_asked told (name ∷ [])
+after_fetch told name (Err Failed) = with_asked told (name ∷ [])
 after_fetch told name (Err Memory) = told
 
 -- where the texts are told, these are at most so many bytes of the text of this name

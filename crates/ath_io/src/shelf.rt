@@ -29,7 +29,8 @@ pub trait Shelf {
     fn fetch(&mut self, alloc: Global, name: &str, most: usize) -> Result<Vec<u8>, FetchError>
         ensures bound { IfOk result (λ bytes. vec_len bytes ≤ most) }
         ensures asked { told self.new ≡ after_fetch (told self.old) name.now result }
-        ensures content { IfOk result (λ bytes. IsFetched (told self.old) name.now most bytes.items) }
+        ensures content { IfOk result (λ bytes.
+            IsFetched (told self.old) name.now most bytes.items) }
         ensures later { faults self.old ≤ faults self.new }
         ensures cause { IsErrOf result Failed → Rose (faults self.old) (faults self.new) };
 }

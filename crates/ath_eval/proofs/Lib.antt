@@ -1,2 +1,5 @@
 pub mod Base
 pub mod Runs
+pub mod RunLaws
+pub mod Sound
+mod Reports

@@ -1,20 +1,23 @@
 -- The report: what the words and the texts by name give.
-use Rattle.std.specs.Prelude.{◌≡◌, ℕ, Bool, true, false, ◌==◌, ◌||◌, not, List, [], ◌∷◌, ◌++◌, Option, Some, None, map, codes, if◌then◌else◌}
-use Rattle.std.specs.List.{list_any, concat}
+use Rattle.std.specs.Prelude.{◌≡◌, ◌⊎◌, ℕ, ◌<◌, length, take, slice_index_or, Bool, true, false, ◌==◌, ◌||◌, not, List, [], ◌∷◌, ◌++◌, Option, Some, None, map, codes, if◌then◌else◌}
+use Rattle.std.specs.List.{list_any}
 use Rattle.std.specs.Str.{bytes_eq}
 use Rattle.ath_sorts.specs.declared.sorts.Sym.{Sym}
 use Rattle.ath_sorts.specs.Signature.{Signature, initial, truth_value}
 use Rattle.ath_terms.specs.Tree.{Sent}
 use Rattle.ath_calculus.specs.Derives.{Derives}
-use Rattle.ath_io.specs.Shelf.{front_of}
+use Rattle.ath_io.specs.Shelf.{Texts, front_of, with_asked}
+use Rattle.ath_io.specs.Sink.{Held, with_put, with_puts}
 use Rattle.ath_reader.specs.Script.{Step}
 use Rattle.ath_reader.specs.Tokens.{first_place}
 use Rattle.ath_reader.specs.Grammar.{IsScript}
 use Rattle.ath_eval.specs.Events.{not_built, Event, declared, asserted, proved, refused}
 use Rattle.ath_eval.specs.Eval.{State, first_state, Ran, ran}
 use Rattle.ath_eval.specs.Lines.{line_of}
+use Rattle.ath_eval.specs.declared.top.Telling.{Telling}
+use Rattle.ath_eval.specs.declared.top.Telling.TheVariants.{Line, Unwritten, NoMemory}
 use Rattle.ath_eval.specs.declared.status.Status.{Status}
-use Rattle.ath_eval.specs.declared.status.Status.TheVariants.{Clean, Errors, Usage, SourceFault}
+use Rattle.ath_eval.specs.declared.status.Status.TheVariants.{Clean, Errors, Usage, Fuel, SourceFault, SinkFault, Memory}
 
 -- an event and its line
 pub record Said : Type 0 where
@@ -68,8 +71,8 @@ pub record Report : Type 0 where
   pub status : Status
   pub names : List (List ℕ)
 
-abbrev pub bytes_of : Report → List ℕ
-bytes_of r = concat (map (λ s. s.line) r.told)
+abbrev pub lines_of : Report → List (List ℕ)
+lines_of r = map (λ s. s.line) r.told
 
 -- words that name no file are a usage fault, and a name without a text a fault of the source
 abbrev pub usage_report : Report
@@ -123,3 +126,68 @@ AreJustified sig axioms (s ∷ told) = IsJustified sig axioms s.event × AreJust
 
 abbrev pub TheoremsFollow : Report → Type 0
 TheoremsFollow r = AreJustified initial [] r.told
+
+-- what a run has written to a sink by its status: all lines, some whole ones, or some whole ones and a front of the next
+abbrev pub Wrote : Status → List (List ℕ) → Option Held → Option Held → Type 0
+Wrote Clean lines before after = after ≡ with_puts before lines
+Wrote Errors lines before after = after ≡ with_puts before lines
+Wrote SinkFault lines before after = (n count : ℕ) × ((n < length lines) × (after ≡ with_put (with_puts before (take n lines)) (take count (slice_index_or lines n []))))
+Wrote Memory lines before after = (n : ℕ) × (after ≡ with_puts before (take n lines))
+Wrote SourceFault lines before after = after ≡ before
+Wrote Usage lines before after = after ≡ before
+Wrote Fuel lines before after = ⊥
+
+-- an answer is the report's status, but for a fault of the source or the sink, or want of memory
+abbrev pub Answers : Status → Report → Type 0
+Answers Clean r = r.status ≡ Clean
+Answers Errors r = r.status ≡ Errors
+Answers Usage r = r.status ≡ Usage
+Answers SourceFault r = Unit {0}
+Answers SinkFault r = Unit {0}
+Answers Memory r = Unit {0}
+Answers Fuel r = ⊥
+
+-- the report of the words and these texts, what the answer says of it, and what was written of it. At want of memory some of its lines
+-- were written, and at a fault of the source none
+abbrev pub Reports : List (List ℕ) → List (List ℕ × List ℕ) → Status → Option Held → Option Held → Type 0
+Reports words texts SourceFault before after = after ≡ before
+Reports words texts Memory before after = (r : Report) → IsReport words texts r → TheoremsFollow r × Wrote Memory (lines_of r) before after
+Reports words texts status before after = (r : Report) × (IsReport words texts r × (Answers status r × (TheoremsFollow r × Wrote status (lines_of r) before after)))
+
+-- the same where the texts are told
+abbrev pub ReportsTold : List (List ℕ) → Option Texts → Status → Option Held → Option Held → Type 0
+ReportsTold words None status before after = Unit {0}
+ReportsTold words (Some t) status before after = Reports words t.texts status before after
+
+-- an answer other than want of memory is the report's status
+abbrev pub Completes : List (List ℕ) → Option Texts → Status → Type 0
+Completes words None status = Unit {0}
+Completes words (Some t) Memory = Unit {0}
+Completes words (Some t) status = (r : Report) → IsReport words t.texts r → r.status ≡ status
+
+-- the names asked: none at a usage fault, else the file's; want of memory may come before it
+abbrev pub AskedFor : Status → Option (List ℕ) → Option Texts → Option Texts → Type 0
+AskedFor status None before after = after ≡ before
+AskedFor Memory (Some file) before after = (after ≡ before) ⊎ (after ≡ with_asked before (file ∷ []))
+AskedFor status (Some file) before after = after ≡ with_asked before (file ∷ [])
+
+-- one directive's line: it is written, or a front of it is, or it isn't
+abbrev pub IsTold : Ran → List ℕ → Telling → Option Held → Option Held → Type 0
+IsTold r file (Line error) before after = (error ≡ is_refused r.event) × (after ≡ with_put before (line_of r.state.names file r.event))
+IsTold r file Unwritten before after = (count : ℕ) × (after ≡ with_put before (take count (line_of r.state.names file r.event)))
+IsTold r file NoMemory before after = after ≡ before
+
+-- what a run of directives answers, and what it has written
+abbrev pub Ended : Status → List Said → Option Held → Option Held → Type 0
+Ended Clean told before after = (status_of told ≡ Clean) × Wrote Clean (map (λ s. s.line) told) before after
+Ended Errors told before after = (status_of told ≡ Errors) × Wrote Errors (map (λ s. s.line) told) before after
+Ended SinkFault told before after = Wrote SinkFault (map (λ s. s.line) told) before after
+Ended Memory told before after = Wrote Memory (map (λ s. s.line) told) before after
+Ended Usage told before after = ⊥
+Ended SourceFault told before after = ⊥
+Ended Fuel told before after = ⊥
+
+-- the same of a text, of which no reading is known where memory was wanted
+abbrev pub EndedOn : List ℕ → List ℕ → Status → Option Held → Option Held → Type 0
+EndedOn file text Memory before after = (reading : Option (List Step)) → IsReading text reading → Ended Memory (told_of file reading) before after
+EndedOn file text status before after = (reading : Option (List Step)) × (IsReading text reading × Ended status (told_of file reading) before after)

@@ -5,6 +5,8 @@ pub mod event;
 pub mod print;
 pub mod session;
 pub mod status;
+pub mod top;
 pub mod value;
 
 pub use status::Status;
+pub use top::athena;

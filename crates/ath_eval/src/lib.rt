@@ -5,6 +5,8 @@ pub mod event;
 pub mod print;
 pub mod session;
 pub mod status;
+#[cfg(test)]
+mod tests;
 pub mod top;
 pub mod value;
 

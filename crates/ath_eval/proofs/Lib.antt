@@ -3,3 +3,4 @@ pub mod Runs
 pub mod RunLaws
 pub mod Sound
 mod Reports
+mod WholeLines

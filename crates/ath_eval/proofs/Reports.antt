@@ -15,7 +15,9 @@ use Rattle.ath_eval.specs.Stands.{AreShort, IsShort}
 use Rattle.ath_eval.specs.Report.{IsReading, told_of, file_of, Report, lines_of, usage_report, absent_report, report_on, IsReportOn, MOST, IsReportOf, IsReport, TheoremsFollow, Wrote, Answers, Reports, ReportsTold, Completes, Ended, EndedOn}
 use Rattle.ath_eval.specs.declared.status.Status.{Status}
 use Rattle.ath_eval.specs.declared.status.Status.TheVariants.{Clean, Errors, Usage, Fuel, SourceFault, SinkFault, Memory}
+use Rattle.ath_eval.specs.Laws.{IsLine}
 use Rattle.ath_eval.proofs.Sound.{told-justified}
+use Rattle.ath_eval.proofs.WholeLines.{told-whole}
 
 -- ---- the names of a script are short
 short_name : (word : List ℕ) → is_constant_name word ≡ true → length word ≤ 200
@@ -80,6 +82,18 @@ follows-of texts (Some file) r x = follows-on file (front_of texts file MOST) r 
 
 pub report-follows : (words : List (List ℕ)) (texts : List (List ℕ × List ℕ)) (r : Report) → IsReport words texts r → TheoremsFollow r
 report-follows words texts = follows-of texts (file_of words)
+
+-- ---- its lines are whole
+whole-on : (file : List ℕ) (text : Option (List ℕ)) (r : Report) → IsReportOn file text r → AllByRecursion IsLine r.told
+whole-on file None r e = subst (λ (s : Report). AllByRecursion IsLine s.told) (sym e) tt
+whole-on file (Some text) r (reading, (a, e)) = subst (λ (s : Report). AllByRecursion IsLine s.told) (sym e) (told-whole file text reading a)
+
+whole-of : (texts : List (List ℕ × List ℕ)) (file : Option (List ℕ)) (r : Report) → IsReportOf texts file r → AllByRecursion IsLine r.told
+whole-of texts None r e = subst (λ (s : Report). AllByRecursion IsLine s.told) (sym e) tt
+whole-of texts (Some file) r x = whole-on file (front_of texts file MOST) r x
+
+pub lines-whole : (words : List (List ℕ)) (texts : List (List ℕ × List ℕ)) (r : Report) → IsReport words texts r → AllByRecursion IsLine r.told
+lines-whole words texts = whole-of texts (file_of words)
 
 -- ---- from the run of a text to the report
 pub ended-on : (file text : List ℕ) (reading : Option (List Step)) (status : Status) (before after : Option Held) → IsReading text reading → Ended status (told_of file reading) before after → EndedOn file text status before after

@@ -18,7 +18,11 @@ use std::alloc::{AllocError, Global};
 fn text(names: &Names, n: Sym) -> &str
     ensures { result.now ≡ text_of names.now n }
 {
-    if n.0 < names.len() { names.text(n.0) } else { "" }
+    if n.0 < names.len() {
+        names.text(n.0)
+    } else {
+        ""
+    }
 }
 
 fn connective(conn: Conn) -> &'static str
@@ -85,12 +89,7 @@ fn push_quoted(out: &mut Vec<u8>, piece: &str) -> Result<(), AllocError>
 }
 
 /// A sentence in prefix form.
-fn push_sent(
-    names: &Names,
-    store: &Store,
-    p: SentId,
-    out: &mut Vec<u8>,
-) -> Result<(), AllocError>
+fn push_sent(names: &Names, store: &Store, p: SentId, out: &mut Vec<u8>) -> Result<(), AllocError>
     requires { p.0 < length store.now.sents }
     ensures { OnOk result (out.new.items ≡ out.old.items ++ printed names.now (sent_at store.now.sents p.0)) }
 {

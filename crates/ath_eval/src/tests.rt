@@ -40,8 +40,8 @@ fn expect_report(
 }
 
 const FIRST: &str = "(declare (A B) Boolean)\n(assert (if A B))\n(assert A)\n(!mp (if A B) A)\n";
-const FIRST_LINES: &str =
-    "Symbols: A, B\nAssertion: (if A B)\nAssertion: A\nTheorem: B\n";
+
+const FIRST_LINES: &str = "Symbols: A, B\nAssertion: (if A B)\nAssertion: A\nTheorem: B\n";
 
 #[test]
 fn scripts_give_their_reports(rt: HostRuntime) -> Result<(), Fail> {

@@ -91,12 +91,7 @@ fn is_error(event: &Event) -> bool
 }
 
 /// Runs the directives one after the other, and writes the line of each.
-fn run_script<K: Sink>(
-    alloc: Global,
-    file: &str,
-    directives: &[Directive],
-    sink: &mut K,
-) -> Status
+fn run_script<K: Sink>(alloc: Global, file: &str, directives: &[Directive], sink: &mut K) -> Status
     requires { All (λ d. IsShort (step_of d)) directives.now }
     ensures ended { Ended result (run file.now first_state (map step_of directives.now)) (K.told sink.old) (K.told sink.new) }
     ensures later { K.faults sink.old ≤ K.faults sink.new }
@@ -117,7 +112,11 @@ fn run_script<K: Sink>(
             Telling::NoMemory => return Status::Memory,
         }
     }
-    if errors { Status::Errors } else { Status::Clean }
+    if errors {
+        Status::Errors
+    } else {
+        Status::Clean
+    }
 }
 
 /// A text of another form is one error, at its first place.
@@ -129,7 +128,14 @@ fn refuse_text<K: Sink>(alloc: Global, file: &str, sink: &mut K) -> Status
     let Ok(session) = Session::new(alloc) else {
         return Status::Memory;
     };
-    let event = Event::Error(Pos { file: 0, line: 1, col: 1 }, Fault::NotBuilt);
+    let event = Event::Error(
+        Pos {
+            file: 0,
+            line: 1,
+            col: 1,
+        },
+        Fault::NotBuilt,
+    );
     match tell(alloc, file, &session, &event, sink) {
         Telling::Line(_) => Status::Errors,
         Telling::Unwritten => Status::SinkFault,

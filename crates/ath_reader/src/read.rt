@@ -60,11 +60,7 @@ fn is_among(word: &[u8], words: &[Text]) -> bool
 }
 
 /// Whether none of the names is seen, nor comes twice; they are seen then.
-fn are_new(
-    alloc: Global,
-    names: &[Text],
-    seen: &mut Items<Text>,
-) -> Result<bool, AllocError>
+fn are_new(alloc: Global, names: &[Text], seen: &mut Items<Text>) -> Result<bool, AllocError>
     ensures answer { IfOk result (λ new. new ≡ are_all_new seen.old names.now) }
     ensures seen { IfOk result (λ new. new ≡ true → seen.new ≡ seen.old ++ names.now) }
 {

@@ -33,9 +33,10 @@ loop-directive-preserved g c =
     let so = subst (λ (steps : List Step). SoFar told c.args.file.now st steps c.loop-directive.directive-index (g.K.Sink.told c.args.sink.now) (g.K.Sink.told c.loop-directive.sink) c.loop-directive.errors) e c.loop-directive.invariant.0 in
     let said = subst (λ (r : Ran). IsTold r c.args.file.now (Line c.in-Line.error) (g.K.Sink.told c.loop-directive.sink) (g.K.Sink.told c.tell.new.sink)) c.in-Ok-directive.ensures.ran c.in-Line.ensures.told in
     let or : c.if-errors.errors ≡ (c.loop-directive.errors || c.in-Line.error)
-    = elim c.if-errors.branch [ then-errors w ↦ w.errors-is ∙ w.if-errors.true ∙ sym (ap (λ b. b || c.in-Line.error) w.if-errors.true) | else-errors w ↦ w.errors-is ∙ sym (ap (λ b. b || c.in-Line.error) w.if-errors.false) ] in
-    (rw or (so_far_next told c.args.file.now st (step_of c.directive-item.result) left c.loop-directive.directive-index (g.K.Sink.told c.args.sink.now) (g.K.Sink.told c.loop-directive.sink) c.loop-directive.errors so (g.K.Sink.told c.tell.new.sink) c.in-Line.error _ (ap (λ (r : Ran). r.state) c.in-Ok-directive.ensures.ran) said.0 said.1),
-    omega (arith, c.loop-directive.invariant.1, c.in-Line.ensures.later))
+    = elim c.if-errors.branch [ then-errors w ↦ w.errors-is ∙ w.if-errors.true ∙ sym (ap (λ b. b || c.in-Line.error) w.if-errors.true) | else-errors w ↦ w.errors-is ∙ sym (ap (λ b. b || c.in-Line.error) w.if-errors.false) ] in (
+      rw or (so_far_next told c.args.file.now st (step_of c.directive-item.result) left c.loop-directive.directive-index (g.K.Sink.told c.args.sink.now) (g.K.Sink.told c.loop-directive.sink) c.loop-directive.errors so (g.K.Sink.told c.tell.new.sink) c.in-Line.error _ (ap (λ (r : Ran). r.state) c.in-Ok-directive.ensures.ran) said.0 said.1),
+      omega (arith, c.loop-directive.invariant.1, c.in-Line.ensures.later),
+    )
 
 pub returns-then-errors-2-clause-ended : goal.returns-then-errors-2-clause-ended
 returns-then-errors-2-clause-ended g c =

@@ -1,5 +1,5 @@
 -- The assumption base, sentence by sentence.
-use Rattle.std.proofs.Common.{◌≡◌, ◌↔◌, ◌<◌, ◌+◌, ℕ, suc, Bool, true, false, ◌||◌, List, [], ◌∷◌, length, map, get_or, drop, ◌++◌, append_assoc, refl, sym, ◌∙◌, ap, add-one, drop-cons, arith}
+use Rattle.std.proofs.Common.{◌≡◌, ◌↔◌, ◌<◌, ◌+◌, ℕ, Bool, true, false, ◌||◌, List, [], ◌∷◌, length, get_or, drop, ◌++◌, append_assoc, refl, sym, ◌∙◌, ap, add-one, drop-cons, arith}
 use Rattle.ath_terms.specs.declared.node.SentId.{SentId}
 use Rattle.ath_terms.specs.declared.node.Conn.{Conn}
 use Rattle.ath_terms.specs.declared.node.Conn.TheVariants.{Not, And, Or, If, Iff}
@@ -8,7 +8,6 @@ use Rattle.ath_terms.specs.declared.node.SentNode.TheVariants.{Conn as ConnNode}
 use Rattle.ath_terms.specs.Nodes.{arity, conn_tree, sent_tree, IsSentBelow}
 use Rattle.ath_terms.specs.Tree.{Sent, joined}
 use Rattle.ath_terms.specs.Trees.{Trees, sent_at}
-use Rattle.ath_terms.specs.Same.{same_sent}
 use Rattle.ath_terms.proofs.SameLaws.{same_sent_is}
 use Rattle.ath_eval.specs.Eval.{holds, modus_ponens, concludes, refuses}
 use Rattle.ath_eval.specs.Events.{wrong_shape, not_in_base}

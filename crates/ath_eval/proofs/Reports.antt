@@ -12,7 +12,7 @@ use Rattle.ath_reader.specs.Words.{is_constant_name}
 use Rattle.ath_reader.specs.Grammar.{AreNames, names_end, names_more, AreDeclared, one_declared, some_declared, IsDeed, is_declare, is_assert, is_mp, AreSteps, steps_end, steps_more, declared_by, IsScript}
 use Rattle.ath_reader.proofs.Directives.{one_reading}
 use Rattle.ath_eval.specs.Stands.{AreShort, IsShort}
-use Rattle.ath_eval.specs.Report.{IsReading, told_of, file_of, Report, lines_of, usage_report, absent_report, report_on, IsReportOn, MOST, IsReportOf, IsReport, TheoremsFollow, Wrote, Answers, Reports, ReportsTold, Completes, Ended, EndedOn}
+use Rattle.ath_eval.specs.Report.{IsReading, told_of, file_of, Report, lines_of, usage_report, report_on, IsReportOn, MOST, IsReportOf, IsReport, TheoremsFollow, Wrote, Reports, ReportsTold, Completes, Ended, EndedOn}
 use Rattle.ath_eval.specs.declared.status.Status.{Status}
 use Rattle.ath_eval.specs.declared.status.Status.TheVariants.{Clean, Errors, Usage, Fuel, SourceFault, SinkFault, Memory}
 use Rattle.ath_eval.specs.Laws.{IsLine}

@@ -1,15 +1,15 @@
 -- A run, directive by directive.
 use Rattle.std.proofs.Common.{◌≡◌, ◌<◌, ◌≤◌, ◌+◌, ℕ, zero, suc, Bool, true, false, ◌||◌, List, [], ◌∷◌, ◌++◌, length, map, take, drop, get_or, Option, refl, sym, ◌∙◌, ap, arith}
 use Rattle.std.specs.List.{list_any}
-use Rattle.std.specs.Prelude.{slice_index_or, if◌then◌else◌}
+use Rattle.std.specs.Prelude.{slice_index_or}
 use Rattle.ath_io.specs.Sink.{Held, with_put, with_puts}
 use Rattle.ath_io.proofs.Told.{with_puts-append}
 use Rattle.ath_reader.specs.declared.script.Directive.{Directive}
 use Rattle.ath_reader.specs.Script.{Step, step_of}
 use Rattle.ath_reader.proofs.Directives.{front_item}
-use Rattle.ath_eval.specs.Eval.{State, Ran, ran}
+use Rattle.ath_eval.specs.Eval.{State, ran}
 use Rattle.ath_eval.specs.Lines.{line_of}
-use Rattle.ath_eval.specs.Report.{Said, said, run, is_refused, status_of, Wrote, Ended}
+use Rattle.ath_eval.specs.Report.{Said, said, run, is_refused, Ended}
 use Rattle.ath_eval.specs.declared.status.Status.TheVariants.{Clean, Errors, SinkFault, Memory}
 
 -- after n directives: what is left, what was written, and whether there was an error

@@ -1,17 +1,16 @@
 -- What a directive makes of a state.
-use Rattle.std.proofs.Common.{◌≡◌, ◌<◌, ℕ, zero, suc, List, [], ◌∷◌, length, map, refl, sym, ◌∙◌, ap, arith}
+use Rattle.std.proofs.Common.{◌≡◌, ◌<◌, ℕ, suc, List, [], ◌∷◌, length, map, refl, sym, ◌∙◌, ap, arith}
 use Rattle.std.specs.List.{All}
 use Rattle.ath_sorts.specs.declared.sorts.Sym.{Sym}
 use Rattle.ath_syntax.specs.declared.place.Pos.{Pos}
 use Rattle.ath_terms.specs.declared.node.SentId.{SentId}
 use Rattle.ath_terms.specs.Tree.{Sent}
-use Rattle.ath_terms.specs.Trees.{Trees, sent_at, Grows, IsSent}
+use Rattle.ath_terms.specs.Trees.{Trees, sent_at, Grows}
 use Rattle.ath_eval.specs.declared.event.Fault.{Fault}
-use Rattle.ath_eval.specs.declared.value.Found.{Found}
 use Rattle.ath_eval.specs.declared.value.Found.TheVariants as found
 use Rattle.ath_eval.specs.declared.value.Answer.TheVariants as answer
-use Rattle.ath_eval.specs.Events.{Refusal, unbound, Event, asserted, proved, refused}
-use Rattle.ath_eval.specs.Eval.{State, Value, is, no_value, Verdict, concludes, refuses, modus_ponens, joining, Ran, ran_assert, ran_verdict, ran_mp}
+use Rattle.ath_eval.specs.Events.{Refusal, unbound, asserted, proved, refused}
+use Rattle.ath_eval.specs.Eval.{State, Value, is, no_value, Verdict, concludes, refuses, modus_ponens, joining, ran_assert, ran_mp}
 use Rattle.ath_eval.specs.Stands.{state_of, sents_of, AreIn, IsValue, IsVerdict, refusal_of}
 
 same_map : {A B : Type 0} (f g : A → B) (P : A → Type 0) → ((a : A) → P a → f a ≡ g a) → (xs : List A) → All P xs → map f xs ≡ map g xs

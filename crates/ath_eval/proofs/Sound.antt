@@ -7,10 +7,9 @@ use Rattle.ath_names.specs.Names.{number_of}
 use Rattle.ath_sorts.specs.declared.sorts.Sym.{Sym}
 use Rattle.ath_sorts.specs.declared.signature.Symbol.{Symbol}
 use Rattle.ath_sorts.specs.Sorts.{image}
-use Rattle.ath_sorts.specs.Signature.{Signature, initial, truth_value, boolean, symbol_among, symbol_of, arity_of}
+use Rattle.ath_sorts.specs.Signature.{Signature, initial, truth_value, symbol_among, symbol_of}
 use Rattle.ath_sorts.proofs.SortLaws.{apply-con}
 use Rattle.ath_syntax.specs.declared.place.Pos.{Pos}
-use Rattle.ath_terms.specs.declared.node.Conn.{Conn}
 use Rattle.ath_terms.specs.declared.node.Conn.TheVariants.{Not, And, Or, If, Iff}
 use Rattle.ath_terms.specs.Tree.{Sent, atom, equal, negated, joined, bound, constant}
 use Rattle.ath_terms.specs.Same.{same_sent}
@@ -20,9 +19,9 @@ use Rattle.ath_calculus.specs.Derives.{Derives, axiom_of, if_elim, IsIn}
 use Rattle.ath_calculus.specs.Laws.{Extends, AreIn}
 use Rattle.ath_calculus.proofs.Grown.{derivation_kept}
 use Rattle.ath_reader.specs.Script.{Tree, named, implies, Deed, declare, assert, mp, Step}
-use Rattle.ath_eval.specs.Events.{Event, declared, asserted, proved, refused, unbound, wrong_shape, not_in_base}
-use Rattle.ath_eval.specs.Eval.{State, first_state, is_constant, constant_of, look_up, Value, is, no_value, found, both, value_of, holds, Verdict, concludes, refuses, detached, modus_ponens, Ran, number_in, with_constant, with_constants, numbers_in, joining, ran_assert, ran_verdict, ran_mp, ran_deed, ran}
-use Rattle.ath_eval.specs.Report.{Said, run, signature_after, asserted_after, IsJustified, AreJustified, told_of, Report, TheoremsFollow}
+use Rattle.ath_eval.specs.Events.{wrong_shape, not_in_base}
+use Rattle.ath_eval.specs.Eval.{State, first_state, is_constant, constant_of, Value, is, no_value, found, both, value_of, holds, Verdict, concludes, refuses, detached, modus_ponens, Ran, number_in, with_constant, with_constants, numbers_in, joining, ran_assert, ran_verdict, ran_mp, ran_deed, ran}
+use Rattle.ath_eval.specs.Report.{run, signature_after, asserted_after, IsJustified, AreJustified, told_of}
 
 -- ---- signatures whose symbols are constants of sort Boolean
 abbrev AreTruthValues : List Symbol → Type 0

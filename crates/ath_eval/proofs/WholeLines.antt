@@ -1,5 +1,5 @@
 -- Each line has one LF, at its end.
-use Rattle.std.proofs.Common.{◌≡◌, ◌↔◌, ◌<◌, ◌≤◌, ◌+◌, ◌/◌, ◌%◌, ℕ, zero, suc, Bool, true, false, ◌||◌, ◌&&◌, ◌==◌, not, nat_le, nat_lt, List, [], ◌∷◌, ◌++◌, length, map, take, Option, Some, None, refl, sym, ◌∙◌, ap, subst, codes, arith, append_assoc}
+use Rattle.std.proofs.Common.{◌≡◌, ◌<◌, ◌+◌, ◌/◌, ◌%◌, ℕ, zero, suc, Bool, true, false, ◌||◌, ◌&&◌, ◌==◌, nat_lt, List, [], ◌∷◌, ◌++◌, Option, Some, None, refl, ◌∙◌, ap, subst, codes, arith}
 use Rattle.std.proofs.lemmas.Grind.{common_steps}
 use Rattle.std.proofs.lemmas.List.Folds.{list_any-append}
 use Rattle.std.specs.Prelude.{if◌then◌else◌, unwrap_or, slice_get, is_some}
@@ -10,7 +10,7 @@ use Rattle.ath_syntax.specs.declared.place.Pos.{Pos}
 use Rattle.ath_names.specs.Names.{number_of, interned, first_names}
 use Rattle.ath_terms.specs.declared.node.Conn.{Conn}
 use Rattle.ath_terms.specs.declared.node.Conn.TheVariants.{Not, And, Or, If, Iff}
-use Rattle.ath_terms.specs.Tree.{Term, var, app, Sent, atom, equal, negated, joined, bound}
+use Rattle.ath_terms.specs.Tree.{var, app, Sent, atom, equal, negated, joined, bound}
 use Rattle.ath_reader.specs.declared.token.Token.{Token}
 use Rattle.ath_reader.specs.declared.token.Token.TheVariants as token
 use Rattle.ath_reader.specs.declared.token.Mode.{Mode}
@@ -22,7 +22,7 @@ use Rattle.ath_terms.specs.Same.{same_sent}
 use Rattle.ath_eval.specs.Eval.{State, first_state, look_up, Value, is, no_value, found, both, value_of, holds, Verdict, concludes, refuses, detached, modus_ponens, Ran, with_constant, with_constants, ran_assert, ran_verdict, ran_mp, ran_deed, ran}
 use Rattle.ath_eval.specs.Report.{said, run, IsReading, told_of}
 use Rattle.ath_eval.specs.Events.{Refusal, unbound, wrong_shape, not_in_base, not_built, Event, declared, asserted, proved, refused}
-use Rattle.ath_eval.specs.Lines.{text_of, conn_text, printed, listed_after, listed, hex_digit, escaped, quoted, refusal_text, place_text, line_of}
+use Rattle.ath_eval.specs.Lines.{conn_text, printed, listed_after, listed, hex_digit, escaped, quoted, refusal_text, place_text}
 use Rattle.ath_eval.specs.Laws.{has_line_end, IsLine}
 
 -- no byte is LF

@@ -1,12 +1,12 @@
 -- The line of an event.
-use Rattle.std.specs.Prelude.{ℕ, ◌+◌, ◌-◌, ◌/◌, ◌%◌, Bool, true, false, ◌||◌, ◌==◌, nat_lt, List, [], ◌∷◌, ◌++◌, Option, Some, None, unwrap_or, slice_get, codes, if◌then◌else◌, map}
+use Rattle.std.specs.Prelude.{ℕ, ◌+◌, ◌/◌, ◌%◌, ◌||◌, ◌==◌, nat_lt, List, [], ◌∷◌, ◌++◌, unwrap_or, slice_get, codes, if◌then◌else◌}
 use Rattle.std.specs.List.{flat_map}
 use Rattle.std.specs.Fmt.{decimal}
 use Rattle.ath_sorts.specs.declared.sorts.Sym.{Sym}
 use Rattle.ath_syntax.specs.declared.place.Pos.{Pos}
 use Rattle.ath_terms.specs.declared.node.Conn.{Conn}
 use Rattle.ath_terms.specs.declared.node.Conn.TheVariants.{Not, And, Or, If, Iff}
-use Rattle.ath_terms.specs.Tree.{Term, var, app, Sent, atom, equal, negated, joined, bound}
+use Rattle.ath_terms.specs.Tree.{var, app, Sent, atom, equal, negated, joined, bound}
 use Rattle.ath_eval.specs.Events.{Refusal, unbound, wrong_shape, not_in_base, not_built, Event, declared, asserted, proved, refused}
 
 abbrev pub text_of : List (List ℕ) → Sym → List ℕ
@@ -19,7 +19,8 @@ conn_text Or = codes "or"
 conn_text If = codes "if"
 conn_text Iff = codes "iff"
 
--- constants by their names, and connectives in prefix form; no script has other sentences yet, and they print as nothing
+-- an application by its symbol, and connectives in prefix form. Scripts have no terms but constants yet, and no other sentences; those print
+-- as nothing
 abbrev pub printed : List (List ℕ) → Sent → List ℕ
 printed names (atom (app f ss ts)) = text_of names f
 printed names (atom (var v)) = []

@@ -4,7 +4,6 @@ use Rattle.std.specs.List.{All, AllByRecursion}
 use Rattle.ath_reader.specs.Script.{Step}
 use Rattle.ath_reader.specs.Grammar.{declared_by}
 use Rattle.ath_sorts.specs.declared.sorts.Sym.{Sym}
-use Rattle.ath_syntax.specs.declared.place.Pos.{Pos}
 use Rattle.ath_terms.specs.declared.node.SentId.{SentId}
 use Rattle.ath_terms.specs.declared.node.Conn.TheVariants.{If}
 use Rattle.ath_terms.specs.Tree.{Sent, joined}

@@ -158,9 +158,9 @@ fn report<K: Sink>(alloc: Global, file: &str, text: &[u8], sink: &mut K) -> Stat
     }
 }
 
-/// Runs the script that the words name, and writes its report: the line of each directive, in order. The one word is the name of a
-/// file, or `-` for the program's input. At a fault of the source nothing is written, at a fault of the sink a part of the report, and
-/// at want of memory some of its lines. The language is that of Arkoudas and Musser, "Fundamental Proof Methods in Computer Science".
+/// Runs the script that the words name, and writes its report: the line of each directive, in order. The words are one word, the name
+/// of a file. At a fault of the source nothing is written, at a fault of the sink a part of the report, and at want of memory some of
+/// its lines. The language is that of Arkoudas and Musser, "Fundamental Proof Methods in Computer Science".
 pub fn athena<S: Shelf, K: Sink>(
     alloc: Global,
     words: &Vec<String>,

@@ -1,12 +1,11 @@
 -- Readings of what directives say.
-use Rattle.std.proofs.Common.{◌≡◌, ℕ, true, List, [], ◌∷◌, Option, Some, None, refl, sym, ◌∙◌, ap, subst, codes}
+use Rattle.std.proofs.Common.{◌≡◌, ℕ, List, ◌∷◌, Some, None, refl, sym, ◌∙◌, ap, codes}
 use Rattle.std.specs.Borrow.{Bor}
 use Rattle.ath_syntax.specs.declared.place.Pos.{Pos}
 use Rattle.ath_reader.specs.declared.token.Token.{Token}
-use Rattle.ath_reader.specs.declared.token.Token.TheVariants.{Word, Open, Close, Bang}
-use Rattle.ath_reader.specs.declared.script.Expr.{Expr}
-use Rattle.ath_reader.specs.Script.{Tree, tree_of, Deed, declare, assert, mp}
-use Rattle.ath_reader.specs.Grammar.{IsExpr, AreNames, AreDeclared, one_declared, some_declared, IsDeed, is_declare, is_assert, is_mp}
+use Rattle.ath_reader.specs.declared.token.Token.TheVariants.{Word, Close, Bang}
+use Rattle.ath_reader.specs.Script.{Tree, Deed, declare, assert, mp}
+use Rattle.ath_reader.specs.Grammar.{IsExpr, AreDeclared, one_declared, some_declared, IsDeed, is_declare, is_assert, is_mp}
 use Rattle.ath_reader.specs.Readings.{TakesWord, TakesClose, TakesBang, ReadsExpr, ReadsDeclared, ReadsDeed}
 use Rattle.ath_reader.proofs.Expressions.{Same, one_expr}
 use Rattle.ath_reader.proofs.NameLists.{one_names}

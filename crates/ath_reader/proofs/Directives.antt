@@ -1,15 +1,14 @@
 -- Readings of whole scripts.
-use Rattle.std.proofs.Common.{◌≡◌, ◌<◌, ◌+◌, ℕ, suc, Bool, true, false, ◌&&◌, not, List, [], ◌∷◌, ◌++◌, length, map, get_or, drop, Option, Some, None, refl, sym, ◌∙◌, ap, subst, codes, arith, append_assoc, add-one, drop-cons}
+use Rattle.std.proofs.Common.{◌≡◌, ◌<◌, ◌+◌, ℕ, suc, Bool, true, false, ◌&&◌, not, List, [], ◌∷◌, ◌++◌, length, map, get_or, drop, Some, refl, sym, ◌∙◌, ap, subst, arith, append_assoc, add-one, drop-cons}
 use Rattle.std.proofs.lemmas.List.{append-nil}
-use Rattle.std.specs.Str.{is_utf8, IsUtf8}
 use Rattle.ath_syntax.specs.declared.place.Pos.{Pos}
 use Rattle.ath_reader.specs.declared.token.Token.{Token}
-use Rattle.ath_reader.specs.declared.token.Token.TheVariants.{Word, Open, Close, Bang}
+use Rattle.ath_reader.specs.declared.token.Token.TheVariants.{Word, Open, Close}
 use Rattle.ath_reader.specs.declared.script.Directive.{Directive}
 use Rattle.ath_reader.specs.Script.{Tree, Deed, declare, assert, mp, Step, step_of}
 use Rattle.ath_reader.specs.Tokens.{tokens_of}
 use Rattle.ath_reader.specs.Grammar.{IsExpr, AreNames, names_end, names_more, AreDeclared, one_declared, some_declared, IsDeed, is_declare, is_assert, is_mp, AreSteps, steps_end, steps_more, is_listed, are_all_new, declared_by, declared_in, IsScript}
-use Rattle.ath_reader.specs.Readings.{StepsSoFar, ReadsScript}
+use Rattle.ath_reader.specs.Readings.{StepsSoFar}
 use Rattle.ath_reader.proofs.Expressions.{Same, one_expr, shorter}
 use Rattle.ath_reader.proofs.Deeds.{one_declaration, differ}
 

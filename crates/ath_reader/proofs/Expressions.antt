@@ -1,11 +1,10 @@
 -- Readings of expressions.
-use Rattle.std.proofs.Common.{◌≡◌, ◌<◌, ℕ, Bool, true, false, List, [], ◌∷◌, length, Option, Some, None, refl, sym, ap, subst, codes, arith}
+use Rattle.std.proofs.Common.{◌≡◌, ◌<◌, ℕ, true, false, List, [], ◌∷◌, length, Some, None, refl, sym, ap, subst, codes, arith}
 use Rattle.std.specs.Borrow.{Bor}
 use Rattle.ath_syntax.specs.declared.place.Pos.{Pos}
 use Rattle.ath_reader.specs.declared.token.Token.{Token}
 use Rattle.ath_reader.specs.declared.token.Token.TheVariants.{Word, Open, Close, Bang}
-use Rattle.ath_reader.specs.declared.script.Expr.{Expr}
-use Rattle.ath_reader.specs.Script.{Tree, named, implies, tree_of}
+use Rattle.ath_reader.specs.Script.{Tree, named, implies}
 use Rattle.ath_reader.specs.Words.{is_constant_name}
 use Rattle.ath_reader.specs.Grammar.{IsExpr, is_name, is_if}
 use Rattle.ath_reader.specs.Readings.{TakesWord, TakesClose, ReadsExpr}

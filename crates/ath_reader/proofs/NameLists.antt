@@ -1,10 +1,10 @@
 -- Readings of lists of names.
-use Rattle.std.proofs.Common.{◌≡◌, ℕ, true, List, [], ◌∷◌, ◌++◌, Option, Some, None, refl, sym, ◌∙◌, ap, append_assoc}
+use Rattle.std.proofs.Common.{◌≡◌, ℕ, true, List, [], ◌∷◌, ◌++◌, Some, None, refl, sym, ◌∙◌, ap, append_assoc}
 use Rattle.std.proofs.lemmas.List.{append-nil}
 use Rattle.std.specs.Borrow.{Bor}
 use Rattle.ath_syntax.specs.declared.place.Pos.{Pos}
 use Rattle.ath_reader.specs.declared.token.Token.{Token}
-use Rattle.ath_reader.specs.declared.token.Token.TheVariants.{Word, Open, Close, Bang}
+use Rattle.ath_reader.specs.declared.token.Token.TheVariants.{Word, Open, Close}
 use Rattle.ath_reader.specs.Words.{is_constant_name}
 use Rattle.ath_reader.specs.Grammar.{AreNames, names_end, names_more, AreDeclared, one_declared, some_declared}
 use Rattle.ath_reader.specs.Readings.{TakesOpen, TakesClose, ReadsName, ReadsNames, ReadsDeclared, NamesSoFar}

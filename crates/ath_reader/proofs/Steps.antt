@@ -1,5 +1,5 @@
 -- The tokens of a text, byte by byte.
-use Rattle.std.proofs.Common.{◌≡◌, ℕ, ◌+◌, ◌<◌, ◌≤◌, ◌==◌, Bool, true, false, if◌then◌else◌, List, [], ◌∷◌, ◌++◌, length, get_or, drop, Option, Some, None, refl, sym, ◌∙◌, ap, append_assoc, add-one, drop-cons, arith}
+use Rattle.std.proofs.Common.{◌≡◌, ℕ, ◌+◌, ◌<◌, ◌≤◌, ◌==◌, Bool, true, false, if◌then◌else◌, List, [], ◌∷◌, ◌++◌, length, get_or, drop, Option, Some, None, refl, ◌∙◌, ap, append_assoc, add-one, drop-cons, arith}
 use Rattle.ath_syntax.specs.declared.place.Pos.{Pos}
 use Rattle.ath_reader.specs.declared.token.Token.{Token}
 use Rattle.ath_reader.specs.declared.token.Mode.{Mode}

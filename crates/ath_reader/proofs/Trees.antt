@@ -1,5 +1,5 @@
 -- What the code's expressions stand for.
-use Rattle.std.proofs.Common.{◌≡◌, ℕ, List, refl, sym, ◌∙◌, ap}
+use Rattle.std.proofs.Common.{◌≡◌, ℕ, List, sym, ◌∙◌, ap}
 use Rattle.ath_syntax.specs.declared.place.Pos.{Pos}
 use Rattle.ath_reader.specs.declared.script.Expr.{Expr, Name, If}
 use Rattle.ath_reader.specs.declared.script.Expr.TheOpen as one

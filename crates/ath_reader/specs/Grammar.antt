@@ -1,5 +1,5 @@
 -- Which tokens spell which script. Each relation has the tokens, the tree that those in front spell, and the tokens behind them.
-use Rattle.std.specs.Prelude.{◌≡◌, ℕ, ◌+◌, ◌-◌, ◌≤◌, Bool, true, false, ◌&&◌, not, nat_le, List, [], ◌∷◌, ◌++◌, length, Option, Some, None, codes}
+use Rattle.std.specs.Prelude.{◌≡◌, ℕ, ◌+◌, ◌-◌, ◌≤◌, Bool, true, ◌&&◌, not, nat_le, List, [], ◌∷◌, ◌++◌, length, Some, codes}
 use Rattle.std.specs.List.{list_any}
 use Rattle.std.specs.Str.{bytes_eq, is_utf8}
 use Rattle.ath_syntax.specs.declared.place.Pos.{Pos}
@@ -34,7 +34,7 @@ pub data AreSteps : List Token → List Step → Type 0 where
   steps_end : AreSteps [] []
   steps_more : {at : Pos} {ts r : List Token} {d : Deed} {steps : List Step} → IsDeed ts d r → AreSteps r steps → AreSteps (Open at ∷ ts) (record { pos = at; deed = d } ∷ steps)
 
--- at most this many brackets are open at once, where so many are open
+-- never more than `most` brackets are open, where `now` are open at first
 abbrev pub is_nested_within : ℕ → ℕ → List Token → Bool
 is_nested_within most now [] = true
 is_nested_within most now (Open at ∷ ts) = nat_le (now + 1) most && is_nested_within most (now + 1) ts

@@ -1,7 +1,7 @@
 -- Scripts as trees.
-use Rattle.std.specs.Prelude.{◌≡◌, ℕ, List, Option, Some, None, map}
+use Rattle.std.specs.Prelude.{ℕ, List}
 use Rattle.ath_syntax.specs.declared.place.Pos.{Pos}
-use Rattle.ath_reader.specs.declared.script.Expr.{Expr, Name, If}
+use Rattle.ath_reader.specs.declared.script.Expr.{Expr}
 use Rattle.ath_reader.specs.declared.script.Expr.TheOpen as one
 use Rattle.ath_reader.specs.declared.script.Expr.TheFolds.{fold-Expr}
 use Rattle.ath_reader.specs.declared.script.What.{What}

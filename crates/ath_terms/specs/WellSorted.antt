@@ -8,6 +8,7 @@ use Rattle.ath_sorts.specs.declared.sorts.Sort.TheOpen as one
 use Rattle.ath_sorts.specs.declared.sorts.Sort.TheFolds.{fold-Sort}
 use Rattle.ath_sorts.specs.declared.signature.Symbol.{Symbol}
 use Rattle.ath_sorts.specs.Signature.{Signature, arity_of, symbol_of, at_sorts, boolean}
+use Rattle.ath_terms.specs.declared.node.Conn.TheVariants.{Not, And, Or, If, Iff}
 use Rattle.ath_terms.specs.declared.node.Var.{Var}
 use Rattle.ath_terms.specs.Tree.{Term, Terms, var, app, none, more, Sent, atom, equal, negated, joined, bound}
 
@@ -33,11 +34,16 @@ mutual
     none_has : HaveSorts sig none []
     more_has : {t : Term} {ts : Terms} {s : Sort} {ss : List Sort} → HasSort sig t s → HaveSorts sig ts ss → HaveSorts sig (more t ts) (s ∷ ss)
 
+-- `not` has one part, and each other connective two
 abbrev pub IsWellSorted : Signature → Sent → Type 0
 IsWellSorted sig (atom t) = HasSort sig t boolean
 IsWellSorted sig (equal s t) = (r : Sort) × (HasSort sig s r × HasSort sig t r)
 IsWellSorted sig (negated p) = IsWellSorted sig p
-IsWellSorted sig (joined c p q) = IsWellSorted sig p × IsWellSorted sig q
+IsWellSorted sig (joined Not p q) = ⊥
+IsWellSorted sig (joined And p q) = IsWellSorted sig p × IsWellSorted sig q
+IsWellSorted sig (joined Or p q) = IsWellSorted sig p × IsWellSorted sig q
+IsWellSorted sig (joined If p q) = IsWellSorted sig p × IsWellSorted sig q
+IsWellSorted sig (joined Iff p q) = IsWellSorted sig p × IsWellSorted sig q
 IsWellSorted sig (bound q v p) = (is_valid_sort sig v.sort ≡ true) × IsWellSorted sig p
 
 abbrev pub AreWellSorted : Signature → List Sent → Type 0

@@ -1,7 +1,5 @@
 use Rattle.std.proofs.Common.{◌≡◌, length, codes, rules}
 use Rattle.ath_terms.specs.declared.node.Conn.TheVariants.{Not}
-use Rattle.ath_terms.specs.Trees.{sent_at}
-use Rattle.ath_eval.specs.Lines.{printed, conn_text}
 use Rattle.ath_eval.proofs.Base.{joined_of, pieces}
 use Rattle.ath_eval.proofs.print.+push_sent.Goals as goal
 

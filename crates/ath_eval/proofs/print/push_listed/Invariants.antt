@@ -1,5 +1,5 @@
-use Rattle.std.proofs.Common.{◌≡◌, ◌++◌, ◌∷◌, drop}
-use Rattle.ath_eval.specs.Lines.{listed, listed_after}
+use Rattle.std.proofs.Common.{◌≡◌, ◌++◌, drop}
+use Rattle.ath_eval.specs.Lines.{listed_after}
 use Rattle.ath_eval.proofs.print.push_listed.Given as goal
 
 abbrev pub invariant-loop-n : goal.invariant-loop-n

@@ -1,9 +1,9 @@
-use Rattle.std.proofs.Common.{◌≡◌, ◌+◌, ◌||◌, ℕ, List, map, drop, sym, ◌∙◌, ap, subst, arith}
+use Rattle.std.proofs.Common.{◌≡◌, ◌+◌, ◌||◌, List, map, drop, sym, ◌∙◌, ap, subst, arith}
 use Rattle.ath_reader.specs.Script.{Step, step_of}
-use Rattle.ath_eval.specs.Eval.{first_state, Ran, ran}
+use Rattle.ath_eval.specs.Eval.{first_state, Ran}
 use Rattle.ath_eval.specs.Report.{run, IsTold}
 use Rattle.ath_eval.specs.Stands.{state_of}
-use Rattle.ath_eval.specs.declared.top.Telling.TheVariants.{Line, Unwritten, NoMemory}
+use Rattle.ath_eval.specs.declared.top.Telling.TheVariants.{Line, Unwritten}
 use Rattle.ath_eval.proofs.RunLaws.{SoFar, so_far_next, unwritten, out_of_memory, ended_clean, ended_errors, left_next, none_left}
 use Rattle.ath_eval.proofs.top.run_script.Goals as goal
 use Rattle.ath_eval.proofs.top.run_script.Goals.{then-errors, else-errors}

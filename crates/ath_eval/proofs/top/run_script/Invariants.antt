@@ -1,4 +1,4 @@
-use Rattle.std.proofs.Common.{◌≡◌, ◌≤◌, take, drop, map}
+use Rattle.std.proofs.Common.{◌≤◌, drop, map}
 use Rattle.ath_reader.specs.Script.{step_of}
 use Rattle.ath_eval.specs.Eval.{first_state}
 use Rattle.ath_eval.specs.Report.{run}

@@ -1,6 +1,5 @@
-use Rattle.std.proofs.Common.{◌≡◌, true, false, refl, sym, ◌∙◌}
+use Rattle.std.proofs.Common.{refl, sym, ◌∙◌}
 use Rattle.ath_terms.specs.Trees.{sent_at}
-use Rattle.ath_eval.specs.Eval.{holds}
 use Rattle.ath_eval.specs.Stands.{sents_of}
 use Rattle.ath_eval.proofs.Base.{other_premise, no_implication, no_premise, conclusion}
 use Rattle.ath_eval.proofs.value.detach.Goals as goal

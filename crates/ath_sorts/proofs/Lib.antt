@@ -3,3 +3,14 @@ pub mod SortLaws
 pub mod SubstitutionLaws
 pub mod UnifierLaws
 pub mod MatchingLaws
+pub mod Gets
+pub mod GraphValues
+pub mod GraphTrees
+pub mod GraphCycles
+pub mod GraphJoins
+pub mod GraphFindings
+pub mod SameSorts
+pub mod GraphGrowth
+pub mod GraphSizes
+pub mod GraphSolutions
+pub mod GraphPairs

@@ -7,4 +7,5 @@ pub mod Substitutions
 pub mod Unifiers
 pub mod Instances
 pub mod Matching
+pub mod Graphs
 pub mod Laws

@@ -1,16 +1,15 @@
 -- Marks: which nodes have a tree, and why no map makes the classes equal where some have none.
-use Rattle.std.proofs.Common.{◌≡◌, ℕ, zero, suc, ◌+◌, ◌<◌, ◌≤◌, Bool, true, false, cond, IsTrue, ◌&&◌, ◌||◌, List, [], ◌∷◌, ◌++◌, length, map, sum, replicate, slice_get, slice_set, Option, Some, None, unwrap_or, refl, sym, ◌∙◌, ap, subst, arith, ◌⊎◌, inl, inr}
+use Rattle.std.proofs.Common.{◌≡◌, ℕ, zero, suc, ◌+◌, ◌<◌, ◌≤◌, Bool, true, false, cond, ◌&&◌, ◌||◌, List, [], ◌∷◌, length, map, sum, replicate, slice_get, slice_set, Option, Some, None, refl, sym, ◌∙◌, ap, subst, arith, ◌⊎◌, inl, inr}
 use Rattle.std.proofs.lemmas.Grind.{common_steps}
-use Rattle.std.specs.List.{AllByRecursion, list_all}
+use Rattle.std.specs.List.{list_all}
 use Rattle.ath_sorts.specs.declared.graph.Graph.{Graph}
 use Rattle.ath_sorts.specs.declared.graph.Node.{Node}
 use Rattle.ath_sorts.specs.declared.graph.Node.TheVariants.{Leaf, Branch}
 use Rattle.ath_sorts.specs.declared.sorts.SVar.{SVar}
 use Rattle.ath_sorts.specs.declared.sorts.Sort.{Sort, Var, Con}
-use Rattle.ath_sorts.specs.declared.sorts.Sym.{Sym}
 use Rattle.ath_sorts.specs.Sorts.{size_of}
-use Rattle.ath_sorts.specs.Graphs.{class_at, head_at, value, Respects, IsGraph, Grows, leaf, branch, AllGrow, nothing, further, HasTree, HasTrees, is_marked, ready_node, is_ready, MarksTrees, IsStuck, IsStuckAt, MatchAcyclic, unmarked}
-use Rattle.ath_sorts.proofs.Gets.{get-there, get-within, get-past, all-at, some-inj, some-not-none}
+use Rattle.ath_sorts.specs.Graphs.{class_at, head_at, value, Respects, IsGraph, leaf, branch, AllGrow, nothing, further, HasTree, is_marked, ready_node, is_ready, MarksTrees, IsStuck, IsStuckAt, MatchAcyclic, unmarked}
+use Rattle.ath_sorts.proofs.Gets.{get-there, all-at, some-inj, some-not-none}
 use Rattle.ath_sorts.proofs.GraphValues.{value-branch}
 use Rattle.ath_sorts.proofs.SortLaws.{size-con}
 

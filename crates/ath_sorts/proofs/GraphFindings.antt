@@ -1,18 +1,17 @@
 -- What is found where classes are compared with the arguments of their nodes.
-use Rattle.std.proofs.Common.{◌≡◌, ℕ, zero, suc, ◌+◌, ◌<◌, ◌≤◌, Bool, true, false, List, [], ◌∷◌, ◌++◌, length, map, get_or, slice_get, Option, Some, None, refl, sym, ◌∙◌, ap, subst, arith, ◌⊎◌, inl, inr}
-use Rattle.std.proofs.lemmas.Grind.{common_steps}
+use Rattle.std.proofs.Common.{◌≡◌, ℕ, zero, suc, ◌<◌, List, [], ◌∷◌, length, map, get_or, slice_get, Option, Some, refl, sym, ◌∙◌, ap, subst, arith, inl, inr}
 use Rattle.std.specs.List.{AllByRecursion}
 use Rattle.ath_sorts.specs.declared.graph.Finding.{Finding}
 use Rattle.ath_sorts.specs.declared.graph.Finding.TheVariants.{Closed, Clash, Apart}
 use Rattle.ath_sorts.specs.declared.graph.Graph.{Graph}
 use Rattle.ath_sorts.specs.declared.graph.Node.{Node}
-use Rattle.ath_sorts.specs.declared.graph.Node.TheVariants.{Leaf, Branch}
+use Rattle.ath_sorts.specs.declared.graph.Node.TheVariants.{Branch}
 use Rattle.ath_sorts.specs.declared.sorts.SVar.{SVar}
 use Rattle.ath_sorts.specs.declared.sorts.Sort.{Sort, Con}
 use Rattle.ath_sorts.specs.declared.sorts.Sym.{Sym}
-use Rattle.ath_sorts.specs.Graphs.{class_at, head_at, value, Respects, IsGraph, AgreesAt, IsClosed, IsNoBranch, are_beside, MatchApart, MatchFinding, MatchFindingAt, MatchClosed, Refines, join_class, classes}
-use Rattle.ath_sorts.proofs.Gets.{get-within, all-weaker, cons-head, cons-tail}
-use Rattle.ath_sorts.proofs.GraphJoins.{Joined, joined_apart}
+use Rattle.ath_sorts.specs.Graphs.{class_at, head_at, value, Respects, IsGraph, AgreesAt, IsNoBranch, are_beside, MatchApart, MatchFindingAt, Refines, join_class, classes}
+use Rattle.ath_sorts.proofs.Gets.{all-weaker, cons-head, cons-tail}
+use Rattle.ath_sorts.proofs.GraphJoins.{joined_apart}
 use Rattle.ath_sorts.proofs.GraphTrees.{branch-inj}
 use Rattle.ath_sorts.proofs.GraphValues.{value-branch}
 use Rattle.ath_sorts.proofs.SortLaws.{Con-inj}

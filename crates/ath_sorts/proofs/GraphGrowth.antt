@@ -1,5 +1,5 @@
 -- What becomes of a graph when nodes are added.
-use Rattle.std.proofs.Common.{◌≡◌, ℕ, zero, suc, ◌+◌, ◌<◌, ◌≤◌, Bool, true, false, cond, ◌||◌, IsTrue, List, [], ◌∷◌, ◌++◌, length, map, slice_get, Option, Some, None, unwrap_or, refl, sym, ◌∙◌, ap, subst, arith, ◌⊎◌, inl, inr, append_assoc}
+use Rattle.std.proofs.Common.{◌≡◌, ℕ, suc, ◌+◌, ◌<◌, ◌≤◌, Bool, true, false, cond, ◌||◌, IsTrue, List, [], ◌∷◌, ◌++◌, length, map, slice_get, Some, unwrap_or, refl, sym, ◌∙◌, ap, subst, arith, ◌⊎◌, inl, inr, append_assoc}
 use Rattle.std.proofs.lemmas.Grind.{common_steps}
 use Rattle.std.proofs.lemmas.List.Folds.{list_any-append}
 use Rattle.std.specs.List.{AllByRecursion, list_any}
@@ -11,12 +11,12 @@ use Rattle.ath_sorts.specs.declared.sorts.Sort.{Sort, Var, Con}
 use Rattle.ath_sorts.specs.declared.sorts.Sym.{Sym}
 use Rattle.ath_sorts.specs.Sorts.{same_svar, apply_to}
 use Rattle.ath_sorts.specs.Unifiers.{comes_first, joined, vars_of}
-use Rattle.ath_sorts.specs.Graphs.{class_at, head_at, value, Respects, IsGraph, IsClosed, LeafFree, IsOrdered, GraphGrows, AddsSort, AddsSorts, stands_before}
+use Rattle.ath_sorts.specs.Graphs.{class_at, value, Respects, IsGraph, IsClosed, LeafFree, IsOrdered, GraphGrows, AddsSort, AddsSorts, stands_before}
 use Rattle.ath_sorts.proofs.Gets.{get-left, get-seam, get-last, get-within, get-past, length-snoc, length-both, all-weaker, all-snoc, map-same, map-both}
 use Rattle.ath_sorts.proofs.GraphTrees.{leaf-inj, leaf-not-branch, branch-inj}
 use Rattle.ath_sorts.proofs.GraphValues.{value-kept, value-leaf, value-new-leaf, value-new-branch}
 use Rattle.ath_sorts.proofs.SameSorts.{vars-var, vars-con}
-use Rattle.ath_sorts.proofs.SortLaws.{apply-var, apply-con, same_svar-true, same_svar-refl, same-or-not}
+use Rattle.ath_sorts.proofs.SortLaws.{apply-var, apply-con, same_svar-true, same_svar-refl}
 
 true-not-false : true ≡ false → ⊥
 true-not-false e = cc

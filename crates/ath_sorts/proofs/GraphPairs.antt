@@ -1,12 +1,11 @@
 -- What becomes of what a graph stands for when the sides of a pair are made equal.
-use Rattle.std.proofs.Common.{◌≡◌, ℕ, ◌+◌, ◌<◌, ◌≤◌, Bool, true, false, cond, IsTrue, ◌↔◌, List, [], ◌∷◌, ◌++◌, length, take, refl, sym, ◌∙◌, ap, subst, arith, ◌⊎◌, inl, inr, append_assoc}
-use Rattle.std.specs.List.{AllByRecursion}
+use Rattle.std.proofs.Common.{◌≡◌, ℕ, ◌<◌, Bool, true, false, cond, List, [], ◌∷◌, ◌++◌, length, refl, sym, ◌∙◌, ap, subst, arith, ◌⊎◌, inl, inr, append_assoc}
 use Rattle.ath_sorts.specs.declared.graph.Graph.{Graph}
 use Rattle.ath_sorts.specs.declared.sorts.SVar.{SVar}
 use Rattle.ath_sorts.specs.declared.sorts.Sort.{Sort}
 use Rattle.ath_sorts.specs.Sorts.{apply_to}
 use Rattle.ath_sorts.specs.Unifiers.{Unifies, HasUnifier, same_sort, vars_of, vars_read}
-use Rattle.ath_sorts.specs.Graphs.{value, Respects, IsGraph, IsClosed, HasTrees, IsOrdered, AddsSort, MatchClosed, MatchAcyclic, MatchEquated, Refines, Solves, join_class}
+use Rattle.ath_sorts.specs.Graphs.{value, Respects, IsGraph, IsClosed, IsOrdered, AddsSort, MatchClosed, MatchAcyclic, MatchEquated, Refines, Solves, join_class}
 use Rattle.ath_sorts.proofs.GraphGrowth.{kept_value, longer, ordered_nodes}
 use Rattle.ath_sorts.proofs.GraphJoins.{Joined, joined_any}
 use Rattle.ath_sorts.proofs.SameSorts.{same_sort-refl, same_sort-true}

@@ -1,5 +1,5 @@
 -- The trees of nodes and their limits.
-use Rattle.std.proofs.Common.{◌≡◌, ℕ, zero, suc, ◌+◌, ◌-◌, ◌<◌, ◌≤◌, max, Bool, true, false, IsTrue, ◌&&◌, List, [], ◌∷◌, ◌++◌, length, map, sum, take, drop, get_or, slice_get, Option, Some, None, refl, sym, ◌∙◌, ap, subst, arith, ◌⊎◌, inl, inr}
+use Rattle.std.proofs.Common.{◌≡◌, ℕ, zero, suc, ◌+◌, ◌-◌, ◌<◌, ◌≤◌, max, List, [], ◌∷◌, ◌++◌, length, map, sum, drop, get_or, slice_get, Some, None, refl, sym, ◌∙◌, ap, subst, arith}
 use Rattle.std.proofs.lemmas.Grind.{common_steps}
 use Rattle.std.specs.Option.{SomeIff}
 use Rattle.ath_sorts.specs.declared.graph.Graph.{Graph}
@@ -9,10 +9,9 @@ use Rattle.ath_sorts.specs.declared.sorts.SVar.{SVar}
 use Rattle.ath_sorts.specs.declared.sorts.Sort.{Sort, Var, Con}
 use Rattle.ath_sorts.specs.declared.sorts.Sym.{Sym}
 use Rattle.ath_sorts.specs.Sorts.{size_of, depth_of, greatest}
-use Rattle.ath_sorts.specs.Limits.{is_small}
-use Rattle.ath_sorts.specs.Graphs.{class_at, head_at, IsGraph, Grows, leaf, branch, AllGrow, nothing, further, HasTree, HasTrees, IsNoBranch}
-use Rattle.ath_sorts.proofs.Gets.{get-within, get-or-get, some-inj, some-not-none}
-use Rattle.ath_sorts.proofs.GraphTrees.{leaf-inj, leaf-not-branch, branch-inj}
+use Rattle.ath_sorts.specs.Graphs.{class_at, head_at, Grows, leaf, branch, AllGrow, nothing, further, IsNoBranch}
+use Rattle.ath_sorts.proofs.Gets.{get-or-get, some-inj, some-not-none}
+use Rattle.ath_sorts.proofs.GraphTrees.{leaf-not-branch, branch-inj}
 use Rattle.ath_sorts.proofs.SortLaws.{sort_induction, size-var, size-con, depth-var, depth-con}
 
 -- every sort has a node and a level

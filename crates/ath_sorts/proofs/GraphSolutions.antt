@@ -1,21 +1,19 @@
 -- The map that a graph stands for.
-use Rattle.std.proofs.Common.{◌≡◌, ℕ, zero, suc, ◌+◌, ◌<◌, ◌≤◌, Bool, true, false, cond, nat_lt, IsTrue, List, [], ◌∷◌, ◌++◌, length, take, slice_get, Option, Some, None, refl, sym, ◌∙◌, ap, subst, arith, ◌⊎◌, inl, inr}
+use Rattle.std.proofs.Common.{◌≡◌, ℕ, zero, suc, ◌+◌, ◌<◌, ◌≤◌, Bool, true, false, cond, nat_lt, IsTrue, List, [], ◌∷◌, ◌++◌, length, slice_get, Option, Some, None, refl, sym, ◌∙◌, ap, subst, arith, ◌⊎◌, inl, inr}
 use Rattle.std.proofs.lemmas.Grind.{common_steps}
-use Rattle.std.proofs.lemmas.List.{take_more}
 use Rattle.std.specs.Option.{is_some}
-use Rattle.std.specs.List.{AllByRecursion}
 use Rattle.ath_sorts.specs.declared.graph.Graph.{Graph}
 use Rattle.ath_sorts.specs.declared.graph.Node.{Node}
 use Rattle.ath_sorts.specs.declared.graph.Node.TheVariants.{Leaf, Branch}
 use Rattle.ath_sorts.specs.declared.sorts.SVar.{SVar}
 use Rattle.ath_sorts.specs.declared.sorts.SVar.TheVariants.{Written, Made}
-use Rattle.ath_sorts.specs.declared.sorts.Sort.{Sort, Var, Con}
+use Rattle.ath_sorts.specs.declared.sorts.Sort.{Sort, Var}
 use Rattle.ath_sorts.specs.declared.sorts.Sym.{Sym}
 use Rattle.ath_sorts.specs.Limits.{is_small}
 use Rattle.ath_sorts.specs.Sorts.{same_svar, image, apply_to, depth_of}
 use Rattle.ath_sorts.specs.Substitutions.{entry_of}
-use Rattle.ath_sorts.specs.Unifiers.{Unifies, HasUnifier, IsLeastUnifier, MovesAll, precedes, vars_read, IsClash, MatchUnified}
-use Rattle.ath_sorts.specs.Graphs.{class_at, head_at, value, Respects, IsGraph, IsClosed, LeafFree, IsNoLeaf, Grows, leaf, branch, HasTrees, IsOrdered, stands_before, Solves, IsSolution, HasSmallImages, HasLargeImage}
+use Rattle.ath_sorts.specs.Unifiers.{HasUnifier, IsLeastUnifier, precedes, vars_read}
+use Rattle.ath_sorts.specs.Graphs.{class_at, head_at, Respects, IsGraph, LeafFree, Grows, leaf, branch, HasTrees, IsOrdered, stands_before, Solves, IsSolution, HasSmallImages, HasLargeImage}
 use Rattle.ath_sorts.proofs.Gets.{get-there, get-within, some-inj, some-not-none}
 use Rattle.ath_sorts.proofs.GraphTrees.{leaf-inj, leaf-not-branch, tree-value, trees-respected}
 use Rattle.ath_sorts.proofs.GraphValues.{value-leaf}

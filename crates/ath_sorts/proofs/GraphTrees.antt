@@ -1,6 +1,6 @@
 -- The trees of nodes, and the sorts that they give to unifiers.
-use Rattle.std.proofs.Common.{◌≡◌, ℕ, zero, suc, ◌+◌, ◌<◌, ◌≤◌, Bool, true, false, IsTrue, List, [], ◌∷◌, ◌++◌, length, map, sum, slice_get, Option, Some, None, unwrap_or, refl, sym, ◌∙◌, ap, subst, arith, ◌⊎◌, inl, inr}
-use Rattle.std.specs.List.{AllByRecursion, list_all}
+use Rattle.std.proofs.Common.{◌≡◌, ℕ, zero, suc, ◌<◌, List, [], ◌∷◌, length, map, slice_get, Option, Some, refl, sym, ◌∙◌, ap, subst, arith}
+use Rattle.std.specs.List.{AllByRecursion}
 use Rattle.ath_sorts.specs.declared.graph.Graph.{Graph}
 use Rattle.ath_sorts.specs.declared.graph.Node.{Node}
 use Rattle.ath_sorts.specs.declared.graph.Node.TheVariants.{Leaf, Branch}
@@ -8,10 +8,10 @@ use Rattle.ath_sorts.specs.declared.sorts.SVar.{SVar}
 use Rattle.ath_sorts.specs.declared.sorts.Sort.{Sort, Var, Con}
 use Rattle.ath_sorts.specs.declared.sorts.Sym.{Sym}
 use Rattle.ath_sorts.specs.Sorts.{apply_to}
-use Rattle.ath_sorts.specs.Graphs.{class_at, head_at, value, Respects, IsGraph, IsClosed, Grows, leaf, branch, AllGrow, nothing, further, HasTree, HasTrees}
-use Rattle.ath_sorts.proofs.Gets.{get-there, get-within, all-at, all-weaker, some-inj}
+use Rattle.ath_sorts.specs.Graphs.{class_at, value, Respects, IsGraph, IsClosed, Grows, leaf, branch, AllGrow, nothing, further, HasTrees}
+use Rattle.ath_sorts.proofs.Gets.{get-there, all-weaker}
 use Rattle.ath_sorts.proofs.GraphValues.{value-leaf, value-branch}
-use Rattle.ath_sorts.proofs.SortLaws.{apply-var, apply-con, Con-inj, Var-not-Con}
+use Rattle.ath_sorts.proofs.SortLaws.{apply-var, apply-con}
 
 pub leaf-inj : (v w : SVar) → ◌≡◌ {A = Option Node} (Some (Leaf v)) (Some (Leaf w)) → v ≡ w
 leaf-inj v w e = cc

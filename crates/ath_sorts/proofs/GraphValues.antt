@@ -1,13 +1,13 @@
 -- The sorts of nodes.
-use Rattle.std.proofs.Common.{◌≡◌, ℕ, zero, suc, ◌+◌, ◌<◌, ◌≤◌, List, [], ◌∷◌, ◌++◌, length, map, take, drop, slice_get, Option, Some, None, unwrap_or, refl, sym, ◌∙◌, ap, subst, arith, append_assoc}
+use Rattle.std.proofs.Common.{◌≡◌, ℕ, suc, ◌+◌, ◌<◌, List, [], ◌∷◌, ◌++◌, length, map, take, drop, slice_get, Some, unwrap_or, refl, sym, ◌∙◌, ap, arith, append_assoc}
 use Rattle.std.specs.List.{AllByRecursion}
 use Rattle.ath_sorts.specs.declared.graph.Node.{Node}
 use Rattle.ath_sorts.specs.declared.graph.Node.TheVariants.{Leaf, Branch}
 use Rattle.ath_sorts.specs.declared.sorts.SVar.{SVar}
-use Rattle.ath_sorts.specs.declared.sorts.Sort.{Sort, Var, Con}
+use Rattle.ath_sorts.specs.declared.sorts.Sort.{Sort, Con}
 use Rattle.ath_sorts.specs.declared.sorts.Sym.{Sym}
 use Rattle.ath_sorts.specs.Graphs.{node_value, sort_at, values_from, value}
-use Rattle.ath_sorts.proofs.Gets.{get-left, get-seam, get-within, split-at, length-snoc, map-same, all-weaker}
+use Rattle.ath_sorts.proofs.Gets.{get-left, get-seam, split-at, length-snoc, map-same, all-weaker}
 
 module _ (f : SVar → Sort) where
   values-more : (ss : List Sort) (ns ms : List Node) → values_from f ss (ns ++ ms) ≡ values_from f (values_from f ss ns) ms

@@ -1,5 +1,5 @@
 -- When two sorts are one, and the variables of a sort.
-use Rattle.std.proofs.Common.{◌≡◌, ℕ, Bool, true, false, ◌&&◌, ◌==◌, List, [], ◌∷◌, ◌++◌, map, refl, sym, ◌∙◌, ap, subst, arith, ◌⊎◌, inl, inr}
+use Rattle.std.proofs.Common.{◌≡◌, ℕ, Bool, true, false, ◌&&◌, ◌==◌, List, [], ◌∷◌, map, refl, sym, ◌∙◌, ap, arith, inl, inr}
 use Rattle.std.proofs.lemmas.Grind.{common_steps}
 use Rattle.std.specs.List.{AllByRecursion}
 use Rattle.ath_sorts.specs.declared.sorts.Sym.{Sym}
@@ -8,7 +8,6 @@ use Rattle.ath_sorts.specs.declared.sorts.Sort.{Sort, Var, Con, out-Sort}
 use Rattle.ath_sorts.specs.declared.sorts.Sort.TheOpen as one
 use Rattle.ath_sorts.specs.declared.sorts.Sort.TheVariants.{rolls-Var, rolls-Con, outs-Var, outs-Con}
 use Rattle.ath_sorts.specs.declared.sorts.Sort.TheFolds.{fold-roll-Sort}
-use Rattle.ath_sorts.specs.Sorts.{same_svar}
 use Rattle.ath_sorts.specs.Unifiers.{all_pass, same_step, same_sort, joined, vars_step, vars_of}
 use Rattle.ath_sorts.proofs.SortLaws.{sort_induction, same_svar-true, same_svar-refl}
 use Rattle.ath_sorts.proofs.SubstitutionLaws.{sort_cases}

@@ -1,19 +1,19 @@
 -- The tables of a signature, searched.
-use Rattle.std.proofs.Common.{◌≡◌, ℕ, ◌≤◌, length, nat_lt, Result, Ok, Err, IfErr, OnOk, if◌then◌else◌, ◌&&◌, ◌||◌, Bool, true, false, cond, ◌==◌, List, [], ◌∷◌, ◌++◌, map, Option, Some, None, is_some, refl, sym, ◌∙◌, ap, arith}
+use Rattle.std.proofs.Common.{◌≡◌, ℕ, ◌≤◌, length, nat_lt, Result, Ok, Err, IfErr, OnOk, if◌then◌else◌, ◌&&◌, ◌||◌, Bool, true, false, cond, ◌==◌, List, [], ◌∷◌, ◌++◌, map, Option, Some, None, is_some, refl, ◌∙◌, ap, arith}
 use Rattle.std.proofs.lemmas.Grind.{common_steps}
 use Rattle.std.specs.Map.{lookup}
 use Rattle.ath_sorts.specs.declared.sorts.Sym.{Sym}
 use Rattle.ath_sorts.specs.declared.signature.Symbol.{Symbol}
 use Rattle.ath_sorts.specs.Kept.{AreNamed}
-use Rattle.ath_sorts.specs.Signature.{Signature, arity_of, symbol_of, arity_among, symbol_among}
+use Rattle.ath_sorts.specs.Signature.{Signature, symbol_of, arity_among, symbol_among}
 use Rattle.ath_sorts.specs.declared.signature.SigError.{SigError}
 use Rattle.ath_sorts.specs.declared.signature.SigError.TheVariants.{SortTooLarge, Memory}
 use Rattle.ath_sorts.specs.declared.sorts.Sort.{Sort}
 use Rattle.ath_sorts.specs.declared.sorts.SVar.TheVariants.{Written}
-use Rattle.ath_sorts.specs.Declaring.{first_fault, fault_if, use_fault, use_faults, all_small, loose_faults, symbol_fault}
+use Rattle.ath_sorts.specs.Declaring.{first_fault, use_fault, use_faults, all_small, loose_faults, symbol_fault}
 use Rattle.ath_sorts.specs.Limits.{is_small}
 use Rattle.ath_sorts.specs.Sorts.{occurs}
-use Rattle.std.specs.List.{list_any, list_all}
+use Rattle.std.specs.List.{list_any}
 use Rattle.std.proofs.lemmas.List.Folds.{list_any-append, list_all-append}
 
 and-true : (b : Bool) → (b && true) ≡ b

@@ -1,5 +1,5 @@
 -- What the graph of unification stands for.
-use Rattle.std.specs.Prelude.{◌≡◌, ℕ, suc, ◌+◌, ◌-◌, ◌<◌, ◌≤◌, ◌↔◌, ◌⊎◌, Bool, true, false, not, ◌==◌, nat_lt, IsTrue, List, [], ◌∷◌, ◌++◌, map, sum, length, slice_get, Option, Some, None, unwrap_or, if◌then◌else◌}
+use Rattle.std.specs.Prelude.{◌≡◌, ℕ, suc, ◌+◌, ◌<◌, ◌⊎◌, Bool, true, false, ◌==◌, nat_lt, IsTrue, List, [], ◌∷◌, ◌++◌, map, sum, length, slice_get, Option, Some, None, unwrap_or, if◌then◌else◌}
 use Rattle.std.specs.List.{AllByRecursion, list_all, list_any}
 use Rattle.ath_sorts.specs.declared.graph.Finding.{Finding}
 use Rattle.ath_sorts.specs.declared.graph.Finding.TheVariants.{Closed, Clash, Apart}

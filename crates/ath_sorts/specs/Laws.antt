@@ -1,5 +1,5 @@
 -- Laws of substitutions, unifiers and instances.
-use Rattle.std.specs.Prelude.{◌≡◌, IsTrue, List}
+use Rattle.std.specs.Prelude.{◌≡◌, List}
 use Rattle.ath_sorts.specs.declared.sorts.SVar.{SVar}
 use Rattle.ath_sorts.specs.declared.sorts.Sort.{Sort}
 use Rattle.ath_sorts.specs.Instances.{IsInstance}

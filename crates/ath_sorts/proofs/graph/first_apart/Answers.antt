@@ -1,4 +1,4 @@
-use Rattle.std.proofs.Common.{◌≡◌, ◌∙◌, sym}
+use Rattle.std.proofs.Common.{◌∙◌, sym}
 use Rattle.ath_sorts.proofs.GraphFindings.{beside_at}
 use Rattle.ath_sorts.proofs.graph.first_apart.Goals as goal
 

@@ -1,4 +1,4 @@
-use Rattle.std.proofs.Common.{◌≡◌, sym, ◌∙◌, ap, ℕ, ◌<◌, List, slice_set, length, subst, arith, length-set}
+use Rattle.std.proofs.Common.{◌∙◌, ap, ℕ, ◌<◌, List, slice_set, length, arith, length-set}
 use Rattle.ath_sorts.specs.Graphs.{rename, class_at}
 use Rattle.ath_sorts.proofs.GraphJoins.{rename_turn}
 use Rattle.ath_sorts.proofs.graph.replace.Goals as goal

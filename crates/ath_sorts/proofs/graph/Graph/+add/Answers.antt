@@ -1,8 +1,8 @@
-use Rattle.std.proofs.Common.{◌≡◌, sym, ◌∙◌, ap, subst, List, ◌++◌, ◌∷◌, [], take, ℕ, ◌+◌}
+use Rattle.std.proofs.Common.{sym, ◌∙◌, ap, subst, List, ◌++◌, ◌∷◌, [], take, ℕ}
 use Rattle.std.proofs.lemmas.List.{take_more, take_all}
 use Rattle.ath_sorts.specs.declared.sorts.Sort.{Sort, Con}
 use Rattle.ath_sorts.specs.Graphs.{AddsSort, AddsSorts}
-use Rattle.ath_sorts.proofs.GraphGrowth.{adds_none, adds_more, adds_con}
+use Rattle.ath_sorts.proofs.GraphGrowth.{adds_more, adds_con}
 use Rattle.ath_sorts.proofs.graph.Graph.+add.Goals as goal
 
 pub loop-arg-preserved : goal.loop-arg-preserved

@@ -1,9 +1,8 @@
-use Rattle.std.proofs.Common.{◌≡◌, sym, ◌∙◌, ap, slice_get, subst, Some, None, ℕ, ◌<◌, ◌≤◌, ◌-◌, arith, ◌⊎◌, inl, inr, Option, List, get_or}
+use Rattle.std.proofs.Common.{sym, ◌∙◌, slice_get, subst, ℕ, ◌≤◌, ◌-◌, arith, inl, inr, Option, List, get_or}
 use Rattle.std.specs.Option.{SomeIff}
 use Rattle.ath_sorts.specs.Sorts.{size_of, depth_of}
 use Rattle.ath_sorts.specs.declared.graph.Node.{Node}
-use Rattle.ath_sorts.specs.declared.sorts.Sort.{Sort}
-use Rattle.ath_sorts.specs.Graphs.{IsNoBranch, Grows}
+use Rattle.ath_sorts.specs.Graphs.{IsNoBranch}
 use Rattle.ath_sorts.proofs.Gets.{get-from-or}
 use Rattle.ath_sorts.proofs.GraphSizes.{turn, all_turns, turn_fails, leaf_fits, leaf-tree, has_size}
 use Rattle.ath_sorts.proofs.graph.Graph.+nodes_left.Goals as goal

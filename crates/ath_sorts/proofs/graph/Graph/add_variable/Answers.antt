@@ -1,4 +1,4 @@
-use Rattle.std.proofs.Common.{◌≡◌, sym, ◌∙◌, ap, slice_get, subst, List}
+use Rattle.std.proofs.Common.{sym, ◌∙◌, ap, slice_get, subst, List}
 use Rattle.ath_sorts.specs.declared.graph.Node.{Node}
 use Rattle.ath_sorts.specs.Graphs.{LeafFree}
 use Rattle.ath_sorts.proofs.GraphGrowth.{adds_leaf, adds_known}

@@ -1,4 +1,3 @@
-use Rattle.std.proofs.Common.{◌≡◌, sym, ◌∙◌, ap}
 use Rattle.ath_sorts.proofs.GraphFindings.{refines_more}
 use Rattle.ath_sorts.proofs.graph.Graph.close.Goals as goal
 

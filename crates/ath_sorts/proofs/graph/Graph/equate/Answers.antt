@@ -1,4 +1,4 @@
-use Rattle.std.proofs.Common.{◌≡◌, sym, ◌∙◌, ap, true, false, refl}
+use Rattle.std.proofs.Common.{◌≡◌, sym, ◌∙◌, true, false}
 use Rattle.ath_sorts.proofs.GraphPairs.{solves_same, graph_joined, clash_when_open, equated, closed_is, open_is}
 use Rattle.ath_sorts.proofs.graph.Graph.equate.Goals as goal
 

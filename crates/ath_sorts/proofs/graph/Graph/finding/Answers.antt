@@ -1,4 +1,4 @@
-use Rattle.std.proofs.Common.{◌≡◌, below_more}
+use Rattle.std.proofs.Common.{below_more}
 use Rattle.ath_sorts.specs.Graphs.{AgreesAt}
 use Rattle.ath_sorts.proofs.graph.Graph.finding.Goals as goal
 

@@ -1,4 +1,4 @@
-use Rattle.std.proofs.Common.{◌≡◌, sym, ◌∙◌, ap, slice_get, ℕ, List, subst}
+use Rattle.std.proofs.Common.{sym, ◌∙◌, slice_get, ℕ, List, subst}
 use Rattle.ath_sorts.specs.Graphs.{MatchApart}
 use Rattle.ath_sorts.proofs.GraphFindings.{clash_of_names, clash_of_widths, finding_of}
 use Rattle.ath_sorts.proofs.graph.Graph.finding_at.Goals as goal

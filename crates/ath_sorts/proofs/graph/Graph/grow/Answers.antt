@@ -1,4 +1,4 @@
-use Rattle.std.proofs.Common.{◌≡◌, sym, ◌∙◌}
+use Rattle.std.proofs.Common.{◌∙◌}
 use Rattle.ath_sorts.proofs.GraphCycles.{fewer_turn, same_turn, stuck_turn}
 use Rattle.ath_sorts.proofs.graph.Graph.grow.Goals as goal
 

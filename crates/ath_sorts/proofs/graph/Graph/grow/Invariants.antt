@@ -1,4 +1,4 @@
-use Rattle.std.proofs.Common.{◌≡◌, ℕ, ◌<◌, ◌≤◌, ◌+◌, ◌⊎◌, length, false, true, IsTrue}
+use Rattle.std.proofs.Common.{◌≡◌, ℕ, ◌<◌, ◌⊎◌, length, false, true, IsTrue}
 use Rattle.ath_sorts.specs.Graphs.{MarksTrees, is_marked, is_ready, unmarked}
 use Rattle.ath_sorts.proofs.graph.Graph.grow.Given as goal
 

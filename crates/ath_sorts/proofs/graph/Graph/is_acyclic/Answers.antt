@@ -1,6 +1,6 @@
-use Rattle.std.proofs.Common.{◌≡◌, sym, ◌∙◌, ap}
+use Rattle.std.proofs.Common.{◌∙◌, ap}
 use Rattle.std.specs.List.{list_all}
-use Rattle.ath_sorts.proofs.GraphCycles.{acyclic_is, nothing_marked}
+use Rattle.ath_sorts.proofs.GraphCycles.{acyclic_is}
 use Rattle.ath_sorts.proofs.graph.Graph.is_acyclic.Goals as goal
 
 pub returns : goal.returns

@@ -1,4 +1,4 @@
-use Rattle.std.proofs.Common.{◌≡◌, sym, ◌∙◌, ap, subst, List, Bool, true}
+use Rattle.std.proofs.Common.{sym, ◌∙◌, ap, List, Bool}
 use Rattle.ath_sorts.specs.Graphs.{is_marked, is_ready}
 use Rattle.ath_sorts.proofs.GraphCycles.{mark_one, fewer_unmarked}
 use Rattle.ath_sorts.proofs.graph.Graph.mark.Goals as goal

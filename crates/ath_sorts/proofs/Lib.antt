@@ -14,3 +14,4 @@ pub mod GraphGrowth
 pub mod GraphSizes
 pub mod GraphSolutions
 pub mod GraphPairs
+pub mod ValidityLaws

@@ -3,6 +3,7 @@ pub mod Limits
 pub mod Signature
 pub mod Kept
 pub mod Declaring
+pub mod Validity
 pub mod Substitutions
 pub mod Unifiers
 pub mod Instances

@@ -96,3 +96,11 @@ cons-head x y xs ys e = cc
 
 pub cons-tail : {X : Type 0} (x y : X) (xs ys : List X) → x ∷ xs ≡ y ∷ ys → xs ≡ ys
 cons-tail x y xs ys e = cc
+
+pub append-none : {X : Type 0} (xs : List X) → xs ++ [] ≡ xs
+append-none [] = refl
+append-none (x ∷ xs) = ap (λ r. x ∷ r) (append-none xs)
+
+pub length-map' : {X Y : Type 0} (f : X → Y) (xs : List X) → length (map f xs) ≡ length xs
+length-map' f [] = refl
+length-map' f (x ∷ xs) = ap suc (length-map' f xs)

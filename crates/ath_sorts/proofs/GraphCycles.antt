@@ -12,17 +12,7 @@ use Rattle.ath_sorts.specs.Graphs.{class_at, head_at, value, Respects, IsGraph, 
 use Rattle.ath_sorts.proofs.Gets.{get-there, all-at, some-inj, some-not-none}
 use Rattle.ath_sorts.proofs.GraphValues.{value-branch}
 use Rattle.ath_sorts.proofs.SortLaws.{size-con}
-
-true-not-false : true ≡ false → ⊥
-true-not-false e = cc
-
-and_parts : (a b : Bool) → (a && b) ≡ true → (a ≡ true) × (b ≡ true)
-and_parts true b h = (refl, h)
-and_parts false b h = absurd (true-not-false (sym h))
-
-bool_cases : (b : Bool) → (b ≡ true) ⊎ (b ≡ false)
-bool_cases true = inl refl
-bool_cases false = inr refl
+use Rattle.ath_sorts.proofs.Bools.{true-not-false, bool_cases, and_parts}
 
 -- where not all pass, one doesn't
 one_fails : (p : ℕ → Bool) (js : List ℕ) → list_all p js ≡ false → (k : ℕ) × ((j : ℕ) × ((slice_get js k ≡ Some j) × (p j ≡ false)))

@@ -9,20 +9,20 @@ use Rattle.ath_sorts.specs.declared.graph.Node.TheVariants.{Branch}
 use Rattle.ath_sorts.specs.declared.sorts.SVar.{SVar}
 use Rattle.ath_sorts.specs.declared.sorts.Sort.{Sort, Con}
 use Rattle.ath_sorts.specs.declared.sorts.Sym.{Sym}
-use Rattle.ath_sorts.specs.Graphs.{class_at, head_at, value, Respects, IsGraph, AgreesAt, IsNoBranch, are_beside, MatchApart, MatchFindingAt, Refines, join_class, classes}
+use Rattle.ath_sorts.specs.Graphs.{class_at, head_at, value, Respects, IsGraph, AgreesAt, IsNoBranch, AreBeside, MatchApart, MatchFindingAt, Refines, join_class, classes}
 use Rattle.ath_sorts.proofs.Gets.{all-weaker, cons-head, cons-tail}
 use Rattle.ath_sorts.proofs.GraphJoins.{joined_apart}
 use Rattle.ath_sorts.proofs.GraphTrees.{branch-inj}
 use Rattle.ath_sorts.proofs.GraphValues.{value-branch}
 use Rattle.ath_sorts.proofs.SortLaws.{Con-inj}
 
-pub beside_at : (xs ys : List ℕ) (i : ℕ) → i < length xs → length xs ≡ length ys → are_beside (get_or xs i 0) (get_or ys i 0) xs ys
+pub beside_at : (xs ys : List ℕ) (i : ℕ) → i < length xs → length xs ≡ length ys → AreBeside (get_or xs i 0) (get_or ys i 0) xs ys
 beside_at [] ys i h e = absurd (omega arith)
 beside_at (x ∷ xs) [] i h e = absurd (omega arith)
 beside_at (x ∷ xs) (y ∷ ys) zero h e = inl (refl, refl)
 beside_at (x ∷ xs) (y ∷ ys) (suc i) h e = inr (beside_at xs ys i (omega arith) (omega arith))
 
-left_within : (n x y : ℕ) (xs ys : List ℕ) → are_beside x y xs ys → AllByRecursion (λ j. j < n) xs → AllByRecursion (λ j. j < n) ys → (x < n) × (y < n)
+left_within : (n x y : ℕ) (xs ys : List ℕ) → AreBeside x y xs ys → AllByRecursion (λ j. j < n) xs → AllByRecursion (λ j. j < n) ys → (x < n) × (y < n)
 left_within n x y [] ys b p q = absurd b
 left_within n x y (a ∷ xs) [] b p q = absurd b
 left_within n x y (a ∷ xs) (c ∷ ys) b p q = elim b [
@@ -30,7 +30,7 @@ left_within n x y (a ∷ xs) (c ∷ ys) b p q = elim b [
   | inr h ↦ left_within n x y xs ys h p.1 q.1
 ]
 
-beside_equal : (h : ℕ → Sort) (x y : ℕ) (xs ys : List ℕ) → are_beside x y xs ys → map h xs ≡ map h ys → h x ≡ h y
+beside_equal : (h : ℕ → Sort) (x y : ℕ) (xs ys : List ℕ) → AreBeside x y xs ys → map h xs ≡ map h ys → h x ≡ h y
 beside_equal h x y [] ys b e = absurd b
 beside_equal h x y (a ∷ xs) [] b e = absurd b
 beside_equal h x y (a ∷ xs) (c ∷ ys) b e = elim b [

@@ -17,13 +17,8 @@ use Rattle.ath_sorts.proofs.GraphTrees.{leaf-inj, leaf-not-branch, branch-inj}
 use Rattle.ath_sorts.proofs.GraphValues.{value-kept, value-leaf, value-new-leaf, value-new-branch}
 use Rattle.ath_sorts.proofs.SameSorts.{vars-var, vars-con}
 use Rattle.ath_sorts.proofs.SortLaws.{apply-var, apply-con, same_svar-true, same_svar-refl}
-
-true-not-false : true ≡ false → ⊥
-true-not-false e = cc
-
-append-none : {X : Type 0} (xs : List X) → xs ++ [] ≡ xs
-append-none [] = refl
-append-none (x ∷ xs) = ap (λ r. x ∷ r) (append-none xs)
+use Rattle.ath_sorts.proofs.Bools.{true-not-false, bool_cases, either_of, either_to}
+use Rattle.ath_sorts.proofs.Gets.{append-none}
 
 first_kept_step : (b c p q : Bool) → (p ≡ true → q ≡ true) → cond b false (cond c true p) ≡ true → cond b false (cond c true q) ≡ true
 first_kept_step true c p q n h = h
@@ -42,18 +37,6 @@ first_new_step false false p r s n h k = n h k
 first_new : (read more : List SVar) (u v : SVar) → list_any (λ w. same_svar w u) read ≡ true → list_any (λ w. same_svar w v) read ≡ false → comes_first (read ++ more) u v ≡ true
 first_new [] more u v h k = absurd (true-not-false (sym h))
 first_new (x ∷ read) more u v h k = first_new_step (same_svar x v) (same_svar x u) (comes_first (read ++ more) u v) (list_any (λ w. same_svar w u) read) (list_any (λ w. same_svar w v) read) (first_new read more u v) h k
-
-either_of : (a b : Bool) → (a || b) ≡ true → (a ≡ true) ⊎ (b ≡ true)
-either_of true b h = inl refl
-either_of false b h = inr h
-
-either_to : (a b : Bool) → (a ≡ true) ⊎ (b ≡ true) → (a || b) ≡ true
-either_to true b h = refl
-either_to false b h = elim h [ inl p ↦ absurd (true-not-false (sym p)) | inr p ↦ p ]
-
-bool_cases : (b : Bool) → (b ≡ true) ⊎ (b ≡ false)
-bool_cases true = inl refl
-bool_cases false = inr refl
 
 any_left : (read more : List SVar) (u : SVar) → list_any (λ w. same_svar w u) read ≡ true → list_any (λ w. same_svar w u) (read ++ more) ≡ true
 any_left read more u h = list_any-append (λ w. same_svar w u) read more ∙ either_to (list_any (λ w. same_svar w u) read) (list_any (λ w. same_svar w u) more) (inl h)

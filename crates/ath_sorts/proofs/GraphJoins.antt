@@ -11,26 +11,14 @@ use Rattle.ath_sorts.specs.declared.sorts.Sym.{Sym}
 use Rattle.ath_sorts.specs.Graphs.{class_at, value, Respects, IsGraph, stands_before, names_class, rename, join_names, join_class, classes}
 use Rattle.ath_sorts.proofs.Gets.{get-there, get-within, get-past, get-map, some-inj, some-not-none}
 use Rattle.ath_sorts.proofs.GraphTrees.{leaf-inj, leaf-not-branch}
-
-true-not-false : true ≡ false → ⊥
-true-not-false e = cc
-
-num_cases : (m n : ℕ) → (m ≡ n) ⊎ (m ≡ n → ⊥)
-num_cases m n = by (m == n) refl
-  where
-    by : (b : Bool) → (m == n) ≡ b → (m ≡ n) ⊎ (m ≡ n → ⊥)
-    by true e = inl (grind (arith, common_steps))
-    by false e = inr (λ p. grind (arith, common_steps))
+use Rattle.ath_sorts.proofs.Bools.{true-not-false, bool_cases, num_cases}
+use Rattle.ath_sorts.proofs.Gets.{length-map'}
 
 rename-same : (x y : ℕ) → rename x y x ≡ y
 rename-same x y = let e : (x == x) ≡ true = grind (arith, common_steps) in rw e refl
 
 rename-other : (x y c : ℕ) → (c ≡ x → ⊥) → rename x y c ≡ c
 rename-other x y c h = let e : (c == x) ≡ false = grind (arith, common_steps) in rw e refl
-
-length-map' : {X Y : Type 0} (f : X → Y) (xs : List X) → length (map f xs) ≡ length xs
-length-map' f [] = refl
-length-map' f (x ∷ xs) = ap suc (length-map' f xs)
 
 before-trans : (a b c : SVar) (i j k : ℕ) → stands_before a i b j ≡ true → stands_before b j c k ≡ true → stands_before a i c k ≡ true
 before-trans (Written a) (Written b) (Written c) i j k p q = grind (arith, common_steps)
@@ -280,10 +268,6 @@ module _ (g : Graph) (is_graph : IsGraph g) (a b : ℕ) (a_in : a < length g.nod
 
   names_second : (x y : ℕ) → (x ≡ y → ⊥) → names_class (slice_get g.nodes x) x (slice_get g.nodes y) y ≡ false → join_names g.nodes g.class x y ≡ map (rename x y) g.class
   names_second x y apart h = rw (num_apart x y apart, h) refl
-
-  bool_cases : (t : Bool) → (t ≡ true) ⊎ (t ≡ false)
-  bool_cases true = inl refl
-  bool_cases false = inr refl
 
   pub joined_apart : (new : Graph) → (class_at g.class a ≡ class_at g.class b → ⊥) → new.nodes ≡ g.nodes → new.class ≡ join_class g.nodes g.class a b → Joined g new a b × (classes 0 new.class < classes 0 g.class)
   joined_apart new apart same_nodes is =

@@ -1,5 +1,5 @@
 -- What becomes of what a graph stands for when the sides of a pair are made equal.
-use Rattle.std.proofs.Common.{◌≡◌, ℕ, ◌<◌, Bool, true, false, cond, List, [], ◌∷◌, ◌++◌, length, refl, sym, ◌∙◌, ap, subst, arith, ◌⊎◌, inl, inr, append_assoc}
+use Rattle.std.proofs.Common.{◌≡◌, ℕ, ◌<◌, Bool, true, false, cond, List, [], ◌∷◌, ◌++◌, length, sym, ◌∙◌, ap, subst, arith, inl, inr, append_assoc}
 use Rattle.ath_sorts.specs.declared.graph.Graph.{Graph}
 use Rattle.ath_sorts.specs.declared.sorts.SVar.{SVar}
 use Rattle.ath_sorts.specs.declared.sorts.Sort.{Sort}
@@ -9,10 +9,8 @@ use Rattle.ath_sorts.specs.Graphs.{value, Respects, IsGraph, IsClosed, IsOrdered
 use Rattle.ath_sorts.proofs.GraphGrowth.{kept_value, longer, ordered_nodes}
 use Rattle.ath_sorts.proofs.GraphJoins.{Joined, joined_any}
 use Rattle.ath_sorts.proofs.SameSorts.{same_sort-refl, same_sort-true}
-
-append-none : {X : Type 0} (xs : List X) → xs ++ [] ≡ xs
-append-none [] = refl
-append-none (x ∷ xs) = ap (λ r. x ∷ r) (append-none xs)
+use Rattle.ath_sorts.proofs.Bools.{bool_cases}
+use Rattle.ath_sorts.proofs.Gets.{append-none}
 
 unifies-front : (f : SVar → Sort) (pairs : List (Sort × Sort)) (p : Sort × Sort) → Unifies f (pairs ++ p ∷ []) → Unifies f pairs
 unifies-front f [] p u = tt
@@ -29,10 +27,6 @@ unifies-both f (q ∷ pairs) p u e = (u.0, unifies-both f pairs p u.1 e)
 read-last : (pairs : List (Sort × Sort)) (p : Sort × Sort) → vars_read (pairs ++ p ∷ []) ≡ vars_read pairs ++ (cond (same_sort p.0 p.1) [] (vars_of p.0 ++ vars_of p.1))
 read-last [] p = append-none (cond (same_sort p.0 p.1) [] (vars_of p.0 ++ vars_of p.1))
 read-last (q ∷ pairs) p = ap (λ r. cond (same_sort q.0 q.1) [] (vars_of q.0 ++ vars_of q.1) ++ r) (read-last pairs p) ∙ sym (append_assoc (cond (same_sort q.0 q.1) [] (vars_of q.0 ++ vars_of q.1)) (vars_read pairs) (cond (same_sort p.0 p.1) [] (vars_of p.0 ++ vars_of p.1)))
-
-bool_cases : (b : Bool) → (b ≡ true) ⊎ (b ≡ false)
-bool_cases true = inl refl
-bool_cases false = inr refl
 
 -- a pair of equal sides changes nothing
 pub solves_same : (g : Graph) (pairs : List (Sort × Sort)) (left right : Sort) → left ≡ right → Solves g pairs → Solves g (pairs ++ (left, right) ∷ [])

@@ -1,7 +1,6 @@
 -- The map that a graph stands for.
-use Rattle.std.proofs.Common.{◌≡◌, ℕ, zero, suc, ◌+◌, ◌<◌, ◌≤◌, Bool, true, false, cond, nat_lt, IsTrue, List, [], ◌∷◌, ◌++◌, length, slice_get, Option, Some, None, refl, sym, ◌∙◌, ap, subst, arith, ◌⊎◌, inl, inr}
+use Rattle.std.proofs.Common.{◌≡◌, ℕ, zero, suc, ◌+◌, ◌<◌, ◌≤◌, true, false, cond, nat_lt, IsTrue, List, [], ◌∷◌, ◌++◌, length, slice_get, Some, None, refl, sym, ◌∙◌, ap, subst, arith, ◌⊎◌, inl, inr}
 use Rattle.std.proofs.lemmas.Grind.{common_steps}
-use Rattle.std.specs.Option.{is_some}
 use Rattle.ath_sorts.specs.declared.graph.Graph.{Graph}
 use Rattle.ath_sorts.specs.declared.graph.Node.{Node}
 use Rattle.ath_sorts.specs.declared.graph.Node.TheVariants.{Leaf, Branch}
@@ -19,33 +18,11 @@ use Rattle.ath_sorts.proofs.GraphTrees.{leaf-inj, leaf-not-branch, tree-value, t
 use Rattle.ath_sorts.proofs.GraphValues.{value-leaf}
 use Rattle.ath_sorts.proofs.SortLaws.{apply-var, size-var, depth-var, Var-inj, Var-not-Con, same_svar-true, same_svar-refl, same-or-not}
 use Rattle.ath_sorts.proofs.SubstitutionLaws.{image-some, image-none}
-
-true-not-false : true ≡ false → ⊥
-true-not-false e = cc
-
-num_cases : (m n : ℕ) → (m ≡ n) ⊎ (m ≡ n → ⊥)
-num_cases m n = grind (arith, common_steps)
+use Rattle.ath_sorts.proofs.Bools.{true-not-false, num_cases}
+use Rattle.ath_sorts.proofs.SubstitutionLaws.{opt_cases, entry-kept, entry-absent}
 
 below_or_last : (i n : ℕ) → i < n + 1 → (i < n) ⊎ (i ≡ n)
 below_or_last i n l = grind (arith, common_steps)
-
-opt_cases : (o : Option Sort) → (o ≡ None) ⊎ ((t : Sort) × (o ≡ Some t))
-opt_cases None = inl refl
-opt_cases (Some t) = inr (t, refl)
-
-entry-more : (s : List (SVar × Sort)) (e : SVar × Sort) (v : SVar) → entry_of (s ++ e ∷ []) v ≡ cond (is_some (entry_of s v)) (entry_of s v) (cond (same_svar e.0 v) (Some e.1) None)
-entry-more [] e v = refl
-entry-more (x ∷ s) e v = by (same_svar x.0 v) (entry-more s e v)
-  where
-    by : (b : Bool) → entry_of (s ++ e ∷ []) v ≡ cond (is_some (entry_of s v)) (entry_of s v) (cond (same_svar e.0 v) (Some e.1) None) → cond b (Some x.1) (entry_of (s ++ e ∷ []) v) ≡ cond (is_some (cond b (Some x.1) (entry_of s v))) (cond b (Some x.1) (entry_of s v)) (cond (same_svar e.0 v) (Some e.1) None)
-    by true h = refl
-    by false h = h
-
-entry-kept : (s : List (SVar × Sort)) (e : SVar × Sort) (w : SVar) (t : Sort) → entry_of s w ≡ Some t → entry_of (s ++ e ∷ []) w ≡ Some t
-entry-kept s e w t h = entry-more s e w ∙ ap (λ o. cond (is_some o) o (cond (same_svar e.0 w) (Some e.1) None)) h
-
-entry-absent : (s : List (SVar × Sort)) (e : SVar × Sort) (w : SVar) → entry_of s w ≡ None → entry_of (s ++ e ∷ []) w ≡ cond (same_svar e.0 w) (Some e.1) None
-entry-absent s e w h = entry-more s e w ∙ ap (λ o. cond (is_some o) o (cond (same_svar e.0 w) (Some e.1) None)) h
 
 entry-other : (s : List (SVar × Sort)) (v : SVar) (t : Sort) (w : SVar) → (v ≡ w → ⊥) → entry_of s w ≡ None → entry_of (s ++ (v, t) ∷ []) w ≡ None
 entry-other s v t w apart h = entry-absent s (v, t) w h ∙ elim (same-or-not v w) [ inl p ↦ absurd (apart (same_svar-true v w p)) | inr p ↦ ap (λ b. cond b (Some t) None) p ]

@@ -1,3 +1,4 @@
+pub mod Bools
 pub mod SignatureLaws
 pub mod SortLaws
 pub mod SubstitutionLaws

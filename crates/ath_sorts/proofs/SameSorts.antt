@@ -1,6 +1,5 @@
 -- When two sorts are one, and the variables of a sort.
-use Rattle.std.proofs.Common.{◌≡◌, ℕ, Bool, true, false, ◌&&◌, ◌==◌, List, [], ◌∷◌, map, refl, sym, ◌∙◌, ap, arith, inl, inr}
-use Rattle.std.proofs.lemmas.Grind.{common_steps}
+use Rattle.std.proofs.Common.{◌≡◌, Bool, true, ◌&&◌, ◌==◌, List, [], ◌∷◌, map, refl, sym, ◌∙◌, ap, inl, inr}
 use Rattle.std.specs.List.{AllByRecursion}
 use Rattle.ath_sorts.specs.declared.sorts.Sym.{Sym}
 use Rattle.ath_sorts.specs.declared.sorts.SVar.{SVar}
@@ -11,6 +10,7 @@ use Rattle.ath_sorts.specs.declared.sorts.Sort.TheFolds.{fold-roll-Sort}
 use Rattle.ath_sorts.specs.Unifiers.{all_pass, same_step, same_sort, joined, vars_step, vars_of}
 use Rattle.ath_sorts.proofs.SortLaws.{sort_induction, same_svar-true, same_svar-refl}
 use Rattle.ath_sorts.proofs.SubstitutionLaws.{sort_cases}
+use Rattle.ath_sorts.proofs.Bools.{and_parts, same_num, num_same}
 
 pub vars-var : (v : SVar) → vars_of (Var v) ≡ v ∷ []
 vars-var v = ap vars_of (sym (rolls-Var v)) ∙ fold-roll-Sort (List SVar) vars_step (one.Var v)
@@ -24,18 +24,8 @@ same-var v t = ap (λ s. same_sort s t) (sym (rolls-Var v)) ∙ ap (λ (k : Sort
 same-con : (c : Sym) (args : List Sort) (t : Sort) → same_sort (Con c args) t ≡ same_step (one.Con c (map same_sort args)) (out-Sort t)
 same-con c args t = ap (λ s. same_sort s t) (sym (rolls-Con c args)) ∙ ap (λ (k : Sort → Bool). k t) (fold-roll-Sort (Sort → Bool) (λ x t. same_step x (out-Sort t)) (one.Con c args))
 
-num_same : (m : ℕ) → (m == m) ≡ true
-num_same m = grind (arith, common_steps)
-
-same_num : (m n : ℕ) → (m == n) ≡ true → m ≡ n
-same_num m n e = grind (arith, common_steps)
-
 and_true : (a b : Bool) → a ≡ true → b ≡ true → (a && b) ≡ true
 and_true a b p q = rw (p, q) refl
-
-and_parts : (a b : Bool) → (a && b) ≡ true → (a ≡ true) × (b ≡ true)
-and_parts true b h = (refl, h)
-and_parts false b h = absurd (cc)
 
 pass-same : (args : List Sort) → AllByRecursion (λ s. same_sort s s ≡ true) args → all_pass (map same_sort args) args ≡ true
 pass-same [] h = refl

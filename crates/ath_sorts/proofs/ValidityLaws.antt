@@ -1,10 +1,9 @@
 -- Declarations keep a signature valid.
-use Rattle.std.proofs.Common.{◌≡◌, ℕ, Bool, true, false, cond, ◌==◌, ◌||◌, List, [], ◌∷◌, ◌++◌, length, map, Option, Some, None, is_some, refl, sym, ◌∙◌, ap, subst, arith, ◌⊎◌, inl, inr, nat_lt}
-use Rattle.std.proofs.lemmas.Grind.{common_steps}
+use Rattle.std.proofs.Common.{◌≡◌, ℕ, Bool, true, false, cond, ◌==◌, ◌||◌, List, [], ◌∷◌, ◌++◌, length, map, Option, Some, None, is_some, refl, sym, ◌∙◌, ap, subst, arith, nat_lt}
 use Rattle.std.specs.List.{list_any, AllByRecursion}
 use Rattle.ath_sorts.specs.declared.limits.TheConstants.{MOST_WIDTH}
 use Rattle.ath_sorts.specs.declared.signature.SigError.{SigError}
-use Rattle.ath_sorts.specs.declared.signature.SigError.TheVariants.{Redeclared, TooWide, UnknownSort, Arity, SortTooLarge}
+use Rattle.ath_sorts.specs.declared.signature.SigError.TheVariants.{Redeclared, TooWide, Arity, SortTooLarge}
 use Rattle.ath_sorts.specs.declared.signature.Symbol.{Symbol}
 use Rattle.ath_sorts.specs.declared.sorts.SVar.{SVar}
 use Rattle.ath_sorts.specs.declared.sorts.SVar.TheVariants.{Written, Made}
@@ -18,9 +17,7 @@ use Rattle.ath_sorts.specs.Signature.{Signature, arity_among, symbol_among, arit
 use Rattle.ath_sorts.specs.Validity.{is_name_of, AreDistinct, has_made, made_step, IsValidSymbol, IsValid}
 use Rattle.ath_sorts.proofs.Gets.{map-both}
 use Rattle.ath_sorts.proofs.SortLaws.{sort_induction}
-
-true-not-false : true ≡ false → ⊥
-true-not-false e = cc
+use Rattle.ath_sorts.proofs.Bools.{true-not-false, or_parts, or_false, turned}
 
 first_none : (f : Option SigError) (fs : List (Option SigError)) → first_fault (f ∷ fs) ≡ None → (f ≡ None) × (first_fault fs ≡ None)
 first_none None fs h = (refl, h)
@@ -32,16 +29,6 @@ first_of_none f fs p q = rw p q
 no_fault : (b : Bool) (e : SigError) → fault_if b e ≡ None → b ≡ false
 no_fault true e h = absurd (cc)
 no_fault false e h = refl
-
-turned : (m n : ℕ) → (m == n) ≡ (n == m)
-turned m n = grind (arith, common_steps)
-
-or_parts : (a b : Bool) → (a || b) ≡ false → (a ≡ false) × (b ≡ false)
-or_parts true b h = absurd (true-not-false h)
-or_parts false b h = (refl, h)
-
-or_false : (a b : Bool) → a ≡ false → b ≡ false → (a || b) ≡ false
-or_false a b p q = rw (p, q) refl
 
 any-last : (n : Sym) (names : List Sym) (m : Sym) → is_name_of n names ≡ false → (m.0 == n.0) ≡ false → is_name_of n (names ++ m ∷ []) ≡ false
 any-last n [] m h k = or_false (m.0 == n.0) false k refl

@@ -160,15 +160,15 @@ MatchFindingAt g i Clash = (f : SVar → Sort) → Respects f g → ⊥
 MatchFindingAt g i (Apart a b) = (a < length g.nodes) × (b < length g.nodes) × (class_at g.class a ≡ class_at g.class b → ⊥) × ((f : SVar → Sort) → Respects f g → value f g.nodes a ≡ value f g.nodes b)
 
 -- whether x and y stand at one place of the two lists
-abbrev pub are_beside : ℕ → ℕ → List ℕ → List ℕ → Type 0
-are_beside x y [] ys = ⊥
-are_beside x y (a ∷ xs) [] = ⊥
-are_beside x y (a ∷ xs) (b ∷ ys) = ((x ≡ a) × (y ≡ b)) ⊎ are_beside x y xs ys
+abbrev pub AreBeside : ℕ → ℕ → List ℕ → List ℕ → Type 0
+AreBeside x y [] ys = ⊥
+AreBeside x y (a ∷ xs) [] = ⊥
+AreBeside x y (a ∷ xs) (b ∷ ys) = ((x ≡ a) × (y ≡ b)) ⊎ AreBeside x y xs ys
 
 abbrev pub MatchApart : List ℕ → List ℕ → List ℕ → Finding → Type 0
 MatchApart class xs ys Closed = map (class_at class) xs ≡ map (class_at class) ys
 MatchApart class xs ys Clash = ⊥
-MatchApart class xs ys (Apart a b) = are_beside a b xs ys × (class_at class a ≡ class_at class b → ⊥)
+MatchApart class xs ys (Apart a b) = AreBeside a b xs ys × (class_at class a ≡ class_at class b → ⊥)
 
 abbrev pub MatchClosed : Graph → Graph → Bool → Type 0
 MatchClosed old new true = Refines old new × IsClosed new

@@ -1,4 +1,3 @@
-use Rattle.std.proofs.Common.{}
 use Rattle.ath_sorts.specs.Graphs.{IsSolution}
 use Rattle.ath_sorts.proofs.graph.Graph.solution.Given as goal
 

@@ -288,15 +288,15 @@ fn declared(
 fn declarations(rt: HostRuntime) -> Result<(), Fail> {
     let alloc = rt.alloc();
     let mut sig = Signature::new(alloc)?;
-    assert_eq!(rt; code(&sig.add_domain(name_of(b'n'), 0)), 0);
-    assert_eq!(rt; code(&sig.add_domain(name_of(b'l'), 1)), 0);
+    assert_eq!(rt; code(&sig.add_domain(alloc, name_of(b'n'), 0)), 0);
+    assert_eq!(rt; code(&sig.add_domain(alloc, name_of(b'l'), 1)), 0);
     assert_eq!(rt;
-        code(&sig.add_domain(name_of(b'n'), 65)),
+        code(&sig.add_domain(alloc, name_of(b'n'), 65)),
         1,
         "the first of two refusals"
     );
-    assert_eq!(rt; code(&sig.add_domain(name_of(b'k'), 65)), 2);
-    assert_eq!(rt; code(&sig.add_domain(name_of(b'k'), 64)), 0);
+    assert_eq!(rt; code(&sig.add_domain(alloc, name_of(b'k'), 65)), 2);
+    assert_eq!(rt; code(&sig.add_domain(alloc, name_of(b'k'), 64)), 0);
     let cases: [(usize, &'static str, u8); 6] = [
         (5, "xly", 0),
         (5, "xly", 1),

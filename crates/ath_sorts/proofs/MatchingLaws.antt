@@ -1,9 +1,8 @@
 -- Steps of matching.
-use Rattle.std.proofs.Common.{◌≡◌, ℕ, suc, zero, ◌+◌, ◌<◌, ◌≤◌, drop, length-take, Bool, true, false, cond, not, ◌&&◌, ◌||◌, IsTrue, ◌↔◌, List, [], ◌∷◌, ◌++◌, map, length, take, get_or, Option, Some, None, refl, sym, ◌∙◌, ap, subst, arith, ◌⊎◌, inl, inr}
+use Rattle.std.proofs.Common.{◌≡◌, ℕ, suc, ◌+◌, ◌<◌, ◌≤◌, drop, length-take, Bool, true, false, cond, not, ◌&&◌, ◌||◌, IsTrue, List, [], ◌∷◌, ◌++◌, map, length, take, get_or, Option, Some, None, refl, sym, ◌∙◌, ap, subst, arith, ◌⊎◌, inl, inr}
 use Rattle.std.specs.Borrow.{Bor}
 use Rattle.std.specs.Option.{IsSome, is_some, option_copied}
 use Rattle.std.specs.List.{list_any, AllByRecursion}
-use Rattle.std.proofs.lemmas.Grind.{common_steps}
 use Rattle.std.proofs.lemmas.List.Folds.{list_any-append}
 use Rattle.std.proofs.lemmas.List.{take_more, take_all, take-append-drop}
 use Rattle.std.proofs.Math.Seq.{drop-cons}
@@ -12,49 +11,24 @@ use Rattle.ath_sorts.specs.declared.sorts.SVar.{SVar}
 use Rattle.ath_sorts.specs.declared.sorts.Sort.{Sort, Var, Con}
 use Rattle.ath_sorts.specs.Sorts.{same_svar, image, apply_to, occurs}
 use Rattle.ath_sorts.specs.Substitutions.{entry_of}
-use Rattle.ath_sorts.specs.Instances.{is_rigid, IsOff, Instantiates, is_free, IsInstance, MatchInstance}
+use Rattle.ath_sorts.specs.Instances.{is_rigid, IsOff, Instantiates, is_free, IsInstance}
 use Rattle.ath_sorts.specs.Matching.{Agrees, Extends, Refuses, MatchExtended}
-use Rattle.ath_sorts.proofs.SortLaws.{sort_induction, apply-var, apply-con, occurs-var, occurs-con, Con-inj, Var-not-Con, same_svar-true, same_svar-refl, same-or-not}
+use Rattle.ath_sorts.proofs.SortLaws.{sort_induction, apply-var, apply-con, occurs-var, occurs-con, Con-inj, same_svar-true, same_svar-refl, same-or-not}
 use Rattle.ath_sorts.proofs.SubstitutionLaws.{image-some, image-none}
-
-head_of : (x y : Sort) (xs ys : List Sort) → x ∷ xs ≡ y ∷ ys → x ≡ y
-head_of x y xs ys e = cc
-
-tail_of : (x y : Sort) (xs ys : List Sort) → x ∷ xs ≡ y ∷ ys → xs ≡ ys
-tail_of x y xs ys e = cc
-
-map-append : (f : Sort → Sort) (xs ys : List Sort) → map f (xs ++ ys) ≡ map f xs ++ map f ys
-map-append f [] ys = refl
-map-append f (x ∷ xs) ys = ap (λ r. f x ∷ r) (map-append f xs ys)
-
-no_end : (y : Sort) (ys : List Sort) → [] ≡ y ∷ ys → ⊥
-no_end y ys e = cc
-
-no_start : (y : Sort) (ys : List Sort) → y ∷ ys ≡ [] → ⊥
-no_start y ys e = cc
+use Rattle.ath_sorts.proofs.Bools.{either_of, either_to, or-false}
+use Rattle.ath_sorts.proofs.Gets.{length-map', cons-head, cons-tail, some-inj, map-both}
+use Rattle.ath_sorts.proofs.SubstitutionLaws.{opt_cases, entry-kept, entry-absent}
 
 -- lists that are equal up to one more item each
 last_apart : (xs ys : List Sort) (x y : Sort) → length xs ≡ length ys → xs ++ x ∷ [] ≡ ys ++ y ∷ [] → (xs ≡ ys) × (x ≡ y)
-last_apart [] [] x y h e = (refl, head_of x y [] [] e)
+last_apart [] [] x y h e = (refl, cons-head x y [] [] e)
 last_apart [] (b ∷ ys) x y h e = absurd (omega arith)
 last_apart (a ∷ xs) [] x y h e = absurd (omega arith)
 last_apart (a ∷ xs) (b ∷ ys) x y h e =
-    let r = last_apart xs ys x y (omega arith) (tail_of a b (xs ++ x ∷ []) (ys ++ y ∷ []) e) in
-    let p = head_of a b (xs ++ x ∷ []) (ys ++ y ∷ []) e in
+    let r = last_apart xs ys x y (omega arith) (cons-tail a b (xs ++ x ∷ []) (ys ++ y ∷ []) e) in
+    let p = cons-head a b (xs ++ x ∷ []) (ys ++ y ∷ []) e in
     let q = r.0 in
     (cc, r.1)
-
-length-map' : (f : Sort → Sort) (xs : List Sort) → length (map f xs) ≡ length xs
-length-map' f [] = refl
-length-map' f (x ∷ xs) = let r = length-map' f xs in omega arith
-
-entry-more : (s : List (SVar × Sort)) (e : SVar × Sort) (v : SVar) → entry_of (s ++ e ∷ []) v ≡ cond (is_some (entry_of s v)) (entry_of s v) (cond (same_svar e.0 v) (Some e.1) None)
-entry-more [] e v = refl
-entry-more (x ∷ s) e v = by (same_svar x.0 v) (entry-more s e v)
-  where
-    by : (b : Bool) → entry_of (s ++ e ∷ []) v ≡ cond (is_some (entry_of s v)) (entry_of s v) (cond (same_svar e.0 v) (Some e.1) None) → cond b (Some x.1) (entry_of (s ++ e ∷ []) v) ≡ cond (is_some (cond b (Some x.1) (entry_of s v))) (cond b (Some x.1) (entry_of s v)) (cond (same_svar e.0 v) (Some e.1) None)
-    by true h = refl
-    by false h = h
 
 left_of : (a b : Bool) → (a && b) ≡ true → a ≡ true
 left_of true b h = refl
@@ -65,51 +39,34 @@ right_of true b h = h
 right_of false b h = absurd (cc)
 
 middle_apart : (xs ys : List Sort) (x y : Sort) (us vs : List Sort) → length xs ≡ length ys → xs ++ x ∷ us ≡ ys ++ y ∷ vs → (xs ≡ ys) × (x ≡ y)
-middle_apart [] [] x y us vs h e = (refl, head_of x y us vs e)
+middle_apart [] [] x y us vs h e = (refl, cons-head x y us vs e)
 middle_apart [] (b ∷ ys) x y us vs h e = absurd (omega arith)
 middle_apart (a ∷ xs) [] x y us vs h e = absurd (omega arith)
 middle_apart (a ∷ xs) (b ∷ ys) x y us vs h e =
-    let r = middle_apart xs ys x y us vs (omega arith) (tail_of a b (xs ++ x ∷ us) (ys ++ y ∷ vs) e) in
-    let p = head_of a b (xs ++ x ∷ us) (ys ++ y ∷ vs) e in
+    let r = middle_apart xs ys x y us vs (omega arith) (cons-tail a b (xs ++ x ∷ us) (ys ++ y ∷ vs) e) in
+    let p = cons-head a b (xs ++ x ∷ us) (ys ++ y ∷ vs) e in
     let q = r.0 in
     (cc, r.1)
-
-or-false : (b : Bool) → (b || false) ≡ b
-or-false true = refl
-or-false false = refl
 
 con_same : (c d : Sym) (xs ys : List Sort) → c.0 ≡ d.0 → xs ≡ ys → Con c xs ≡ Con d ys
 con_same c d xs ys p q = λ i. Con (record { 0 = p i }) (q i)
 
 args_same : (f : SVar → Sort) (c d : Sym) (gs ss : List Sort) → Instantiates f (Con c gs ∷ []) (Con d ss ∷ []) → Instantiates f gs ss
-args_same f c d gs ss i = (Con-inj c d (map (apply_to f) gs) ss (sym (apply-con f c gs) ∙ head_of (apply_to f (Con c gs)) (Con d ss) [] [] i)).1
-
-some_is : (x y : Sort) → ◌≡◌ {A = Option Sort} (Some x) (Some y) → x ≡ y
-some_is x y e = cc
+args_same f c d gs ss i = (Con-inj c d (map (apply_to f) gs) ss (sym (apply-con f c gs) ∙ cons-head (apply_to f (Con c gs)) (Con d ss) [] [] i)).1
 
 is-some-of : (o : Option Sort) (t : Sort) → o ≡ Some t → is_some o ≡ true
 is-some-of o t e = ap is_some e
 
-entry-kept : (s : List (SVar × Sort)) (e : SVar × Sort) (w : SVar) (t : Sort) → entry_of s w ≡ Some t → entry_of (s ++ e ∷ []) w ≡ Some t
-entry-kept s e w t h = entry-more s e w ∙ ap (λ o. cond (is_some o) o (cond (same_svar e.0 w) (Some e.1) None)) h
-
-entry-absent : (s : List (SVar × Sort)) (e : SVar × Sort) (w : SVar) → entry_of s w ≡ None → entry_of (s ++ e ∷ []) w ≡ cond (same_svar e.0 w) (Some e.1) None
-entry-absent s e w h = entry-more s e w ∙ ap (λ o. cond (is_some o) o (cond (same_svar e.0 w) (Some e.1) None)) h
-
 entry-new : (s : List (SVar × Sort)) (v : SVar) (t : Sort) → entry_of s v ≡ None → entry_of (s ++ (v, t) ∷ []) v ≡ Some t
 entry-new s v t h = entry-absent s (v, t) v h ∙ ap (λ b. cond b (Some t) None) (same_svar-refl v)
-
-opt_cases : (o : Option Sort) → (o ≡ None) ⊎ ((t : Sort) × (o ≡ Some t))
-opt_cases None = inl refl
-opt_cases (Some t) = inr (t, refl)
 
 var_agrees : (f : SVar → Sort) (a : List (SVar × Sort)) (v : SVar) (s : Sort) → Agrees f a → f v ≡ s → Agrees f (a ++ (v, s) ∷ [])
 var_agrees f a v s h e w t k = elim (opt_cases (entry_of a w)) [
   | inl n ↦ elim (same-or-not v w) [
-    | inl p ↦ ap f (sym (same_svar-true v w p)) ∙ e ∙ some_is s t (sym (entry-absent a (v, s) w n ∙ ap (λ b. cond b (Some s) None) p) ∙ k)
+    | inl p ↦ ap f (sym (same_svar-true v w p)) ∙ e ∙ some-inj s t (sym (entry-absent a (v, s) w n ∙ ap (λ b. cond b (Some s) None) p) ∙ k)
     | inr p ↦ absurd (let z = sym (entry-absent a (v, s) w n ∙ ap (λ b. cond b (Some s) None) p) ∙ k in cc)
   ]
-  | inr n ↦ h w n.0 n.1 ∙ some_is n.0 t (sym (entry-kept a (v, s) w n.0 n.1) ∙ k)
+  | inr n ↦ h w n.0 n.1 ∙ some-inj n.0 t (sym (entry-kept a (v, s) w n.0 n.1) ∙ k)
 ]
 
 free-var : (rigid : List SVar) (v w : SVar) → is_free (Var v ∷ []) rigid w ≡ (same_svar w v && not (is_rigid rigid w))
@@ -149,14 +106,6 @@ extends-none rigid s = record {
   covers = λ v. (inl, λ h. elim h [ inl p ↦ p | inr p ↦ absurd (cc) ]);
 }
 
-either_of : (a b : Bool) → (a || b) ≡ true → (a ≡ true) ⊎ (b ≡ true)
-either_of true b h = inl refl
-either_of false b h = inr h
-
-either_to : (a b : Bool) → (a ≡ true) ⊎ (b ≡ true) → (a || b) ≡ true
-either_to true b h = refl
-either_to false b h = elim h [ inl p ↦ absurd (cc) | inr p ↦ p ]
-
 or_and : (a b c : Bool) → ((a || b) && c) ≡ ((a && c) || (b && c))
 or_and true b true = refl
 or_and true true false = refl
@@ -173,10 +122,10 @@ module _ (rigid : List SVar) (a b : List (SVar × Sort)) (gs ss : List Sort) (be
     sound = λ f o h.
         let p = last.sound f o h in
         let q = before.sound f o p.0 in
-        let e = head_of (apply_to f g) s [] [] p.1 in
-        (q.0, map-append (apply_to f) gs (g ∷ []) ∙ cc);
+        let e = cons-head (apply_to f g) s [] [] p.1 in
+        (q.0, map-both (apply_to f) gs (g ∷ []) ∙ cc);
     complete = λ f o h i.
-        let e = last_apart (map (apply_to f) gs) ss (apply_to f g) s (length-map' (apply_to f) gs ∙ even) (sym (map-append (apply_to f) gs (g ∷ [])) ∙ i) in
+        let e = last_apart (map (apply_to f) gs) ss (apply_to f g) s (length-map' (apply_to f) gs ∙ even) (sym (map-both (apply_to f) gs (g ∷ [])) ∙ i) in
         last.complete f o (before.complete f o h e.0) (ap (λ x. x ∷ []) e.1);
     covers = λ v. (
       (λ h. elim ((last.covers v).0 h) [
@@ -195,7 +144,7 @@ module _ (rigid : List SVar) (a b : List (SVar × Sort)) (gs ss : List Sort) (be
 
   pub refuses-more : (more more' : List Sort) → Refuses rigid b (g ∷ []) (s ∷ []) → Refuses rigid a (gs ++ g ∷ more) (ss ++ s ∷ more')
   refuses-more more more' refused f o h i =
-      let e = middle_apart (map (apply_to f) gs) ss (apply_to f g) s (map (apply_to f) more) more' (length-map' (apply_to f) gs ∙ even) (sym (map-append (apply_to f) gs (g ∷ more)) ∙ i) in
+      let e = middle_apart (map (apply_to f) gs) ss (apply_to f g) s (map (apply_to f) more) more' (length-map' (apply_to f) gs ∙ even) (sym (map-both (apply_to f) gs (g ∷ more)) ∙ i) in
       refused f o (before.complete f o h e.0) (ap (λ x. x ∷ []) e.1)
 
 -- the arguments are matched where the sorts are
@@ -216,7 +165,7 @@ refuses-con rigid a c d gs ss refused f o h i = refused f o h (args_same f c d g
 pub extends-var : (rigid : List SVar) (a : List (SVar × Sort)) (v : SVar) (s : Sort) → is_rigid rigid v ≡ false → entry_of a v ≡ None → Extends rigid a (a ++ (v, s) ∷ []) (Var v ∷ []) (s ∷ [])
 extends-var rigid a v s soft none = record {
   sound = λ f o h. ((λ w t e. h w t (entry-kept a (v, s) w t e)), ap (λ x. x ∷ []) (apply-var f v ∙ h v s (entry-new a v s none)));
-  complete = λ f o h i w t e. var_agrees f a v s h (sym (apply-var f v) ∙ head_of (apply_to f (Var v)) s [] [] i) w t e;
+  complete = λ f o h i w t e. var_agrees f a v s h (sym (apply-var f v) ∙ cons-head (apply_to f (Var v)) s [] [] i) w t e;
   covers = λ w. (λ k. by_new rigid a v s w soft k, λ k. to_new rigid a v s w none k);
 }
 
@@ -289,8 +238,8 @@ module _ (f g : SVar → Sort) where
   any_agree : (v : SVar) (args : List Sort) → AllByRecursion (λ s. apply_to f s ≡ apply_to g s → occurs v s ≡ true → f v ≡ g v) args → map (apply_to f) args ≡ map (apply_to g) args → list_any (occurs v) args ≡ true → f v ≡ g v
   any_agree v [] h e o = absurd (cc)
   any_agree v (s ∷ ss) h e o = elim (either_of (occurs v s) (list_any (occurs v) ss) o) [
-    | inl p ↦ h.0 (head_of (apply_to f s) (apply_to g s) (map (apply_to f) ss) (map (apply_to g) ss) e) p
-    | inr p ↦ any_agree v ss h.1 (tail_of (apply_to f s) (apply_to g s) (map (apply_to f) ss) (map (apply_to g) ss) e) p
+    | inl p ↦ h.0 (cons-head (apply_to f s) (apply_to g s) (map (apply_to f) ss) (map (apply_to g) ss) e) p
+    | inr p ↦ any_agree v ss h.1 (cons-tail (apply_to f s) (apply_to g s) (map (apply_to f) ss) (map (apply_to g) ss) e) p
   ]
 
   pub agree_in : (v : SVar) (s : Sort) → apply_to f s ≡ apply_to g s → occurs v s ≡ true → f v ≡ g v

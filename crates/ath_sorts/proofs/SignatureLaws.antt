@@ -1,31 +1,22 @@
 -- The tables of a signature, searched.
-use Rattle.std.proofs.Common.{◌≡◌, ℕ, ◌≤◌, length, nat_lt, Result, Ok, Err, IfErr, OnOk, if◌then◌else◌, ◌&&◌, ◌||◌, Bool, true, false, cond, ◌==◌, List, [], ◌∷◌, ◌++◌, map, Option, Some, None, is_some, refl, sym, ◌∙◌, ap, arith}
+use Rattle.std.proofs.Common.{◌≡◌, ℕ, ◌≤◌, length, nat_lt, Result, Ok, Err, IfErr, OnOk, if◌then◌else◌, ◌&&◌, ◌||◌, Bool, true, false, cond, ◌==◌, List, [], ◌∷◌, ◌++◌, map, Option, Some, None, is_some, refl, ◌∙◌, ap, arith}
 use Rattle.std.proofs.lemmas.Grind.{common_steps}
 use Rattle.std.specs.Map.{lookup}
 use Rattle.ath_sorts.specs.declared.sorts.Sym.{Sym}
 use Rattle.ath_sorts.specs.declared.signature.Symbol.{Symbol}
 use Rattle.ath_sorts.specs.Kept.{AreNamed}
-use Rattle.ath_sorts.specs.Signature.{Signature, arity_of, symbol_of, arity_among, symbol_among}
+use Rattle.ath_sorts.specs.Signature.{Signature, symbol_of, arity_among, symbol_among}
 use Rattle.ath_sorts.specs.declared.signature.SigError.{SigError}
 use Rattle.ath_sorts.specs.declared.signature.SigError.TheVariants.{SortTooLarge, Memory}
 use Rattle.ath_sorts.specs.declared.sorts.Sort.{Sort}
 use Rattle.ath_sorts.specs.declared.sorts.SVar.TheVariants.{Written}
-use Rattle.ath_sorts.specs.Declaring.{first_fault, fault_if, use_fault, use_faults, all_small, loose_faults, symbol_fault}
+use Rattle.ath_sorts.specs.Declaring.{first_fault, use_fault, use_faults, all_small, loose_faults, symbol_fault}
 use Rattle.ath_sorts.specs.Limits.{is_small}
 use Rattle.ath_sorts.specs.Sorts.{occurs}
-use Rattle.std.specs.List.{list_any, list_all}
+use Rattle.std.specs.List.{list_any}
 use Rattle.std.proofs.lemmas.List.Folds.{list_any-append, list_all-append}
-
-and-true : (b : Bool) → (b && true) ≡ b
-and-true true = refl
-and-true false = refl
-
-or-false : (b : Bool) → (b || false) ≡ b
-or-false true = refl
-or-false false = refl
-
-turned : (m n : ℕ) → (m == n) ≡ (n == m)
-turned m n = grind (arith, common_steps)
+use Rattle.ath_sorts.proofs.Bools.{and-true, or-false, turned}
+use Rattle.ath_sorts.proofs.Gets.{map-both}
 
 pub arity-lookup : (es : List (Sym × ℕ)) (n : Sym) → lookup (λ k. n.0 == k.0) es ≡ arity_among es n
 arity-lookup [] n = refl
@@ -52,12 +43,8 @@ first-last [] y = refl
 first-last (None ∷ xs) y = first-last xs y
 first-last (Some e ∷ xs) y = refl
 
-map-last : {A B : Type 0} (f : A → B) (xs : List A) (y : A) → map f (xs ++ y ∷ []) ≡ map f xs ++ f y ∷ []
-map-last f [] y = refl
-map-last f (x ∷ xs) y = ap (λ r. f x ∷ r) (map-last f xs y)
-
 pub uses-last : (sig : Signature) (params : List Sym) (args : List Sort) (r : Sort) → use_faults sig params (args ++ r ∷ []) ≡ first_fault (use_faults sig params args ∷ use_fault sig params r ∷ [])
-uses-last sig params args r = ap first_fault (map-last (use_fault sig params) args r) ∙ first-last (map (use_fault sig params) args) (use_fault sig params r)
+uses-last sig params args r = ap first_fault (map-both (use_fault sig params) args (r ∷ [])) ∙ first-last (map (use_fault sig params) args) (use_fault sig params r)
 
 pub small-last : (args : List Sort) (r : Sort) → all_small (args ++ r ∷ []) ≡ (all_small args && is_small r)
 small-last args r = list_all-append is_small args (r ∷ []) ∙ ap (λ b. all_small args && b) (and-true (is_small r))

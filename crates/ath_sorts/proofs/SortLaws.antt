@@ -1,6 +1,5 @@
 -- Induction over sorts, and the equations of what is defined over them.
-use Rattle.std.proofs.Common.{◌≡◌, ℕ, ◌+◌, ◌==◌, Bool, true, false, List, [], ◌∷◌, map, sum, refl, sym, ◌∙◌, ap, subst, arith, ◌⊎◌, inl, inr}
-use Rattle.std.proofs.lemmas.Grind.{common_steps}
+use Rattle.std.proofs.Common.{◌≡◌, ℕ, ◌+◌, Bool, true, false, List, [], ◌∷◌, map, sum, refl, sym, ◌∙◌, ap, subst, ◌⊎◌, inl, inr}
 use Rattle.std.specs.List.{AllByRecursion, list_any}
 use Rattle.ath_sorts.specs.declared.sorts.Sym.{Sym}
 use Rattle.ath_sorts.specs.declared.sorts.SVar.{SVar}
@@ -10,6 +9,7 @@ use Rattle.ath_sorts.specs.declared.sorts.Sort.TheOpen as one
 use Rattle.ath_sorts.specs.declared.sorts.Sort.TheVariants.{rolls-Var, rolls-Con, outs-Var, outs-Con}
 use Rattle.ath_sorts.specs.declared.sorts.Sort.TheFolds.{map-Sort, ind-Sort, fold-roll-Sort}
 use Rattle.ath_sorts.specs.Sorts.{same_svar, apply_to, apply_step, size_of, size_step, depth_of, depth_step, greatest, occurs, occurs_step}
+use Rattle.ath_sorts.proofs.Bools.{same_num, num_same}
 
 -- induction in the usual form: a fact of each argument gives that of the sort
 module _ (P : Sort → Type 0) (at_var : (v : SVar) → P (Var v)) (at_con : (c : Sym) (args : List Sort) → AllByRecursion P args → P (Con c args)) where
@@ -62,12 +62,6 @@ Var-inj v w e = cc
 
 pub Var-not-Con : (v : SVar) (c : Sym) (xs : List Sort) → Var v ≡ Con c xs → ⊥
 Var-not-Con v c xs e = let p = sym (outs-Var v) ∙ ap out-Sort e ∙ outs-Con c xs in cc
-
-same_num : (m n : ℕ) → (m == n) ≡ true → m ≡ n
-same_num m n e = grind (arith, common_steps)
-
-num_same : (m : ℕ) → (m == m) ≡ true
-num_same m = grind (arith, common_steps)
 
 pub same_svar-true : (v w : SVar) → same_svar v w ≡ true → v ≡ w
 same_svar-true (Written a) (Written b) e = let p = same_num a.0 b.0 e in ap (λ (n : ℕ). Written (record { 0 = n })) p

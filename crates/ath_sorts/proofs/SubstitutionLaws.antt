@@ -1,18 +1,17 @@
 -- Laws of substitutions.
-use Rattle.std.proofs.Common.{◌≡◌, ℕ, Bool, true, false, cond, List, [], ◌∷◌, ◌++◌, map, Option, Some, None, refl, sym, ◌∙◌, ap, subst, ◌⊎◌, inl, inr}
+use Rattle.std.proofs.Common.{◌≡◌, ◌++◌, Bool, true, false, cond, List, [], ◌∷◌, map, Option, Some, None, refl, sym, ◌∙◌, ap, ◌⊎◌, inl, inr}
 use Rattle.std.specs.List.{AllByRecursion}
+use Rattle.std.specs.Option.{is_some}
 use Rattle.ath_sorts.specs.declared.sorts.SVar.{SVar}
 use Rattle.ath_sorts.specs.declared.sorts.Sym.{Sym}
 use Rattle.ath_sorts.specs.declared.sorts.Sort.{Sort, Var, Con}
 use Rattle.ath_sorts.specs.Sorts.{same_svar, image, apply_to}
 use Rattle.ath_sorts.specs.Substitutions.{entry_of, after}
 use Rattle.ath_sorts.proofs.SortLaws.{sort_induction, apply-var, apply-con, Con-inj, Var-not-Con}
-
-some_is : (x y : Sort) → ◌≡◌ {A = Option Sort} (Some x) (Some y) → x ≡ y
-some_is x y e = cc
+use Rattle.ath_sorts.proofs.Gets.{cons-head, cons-tail, some-inj}
 
 some_step : (b : Bool) (x r t : Sort) (o : Option Sort) → (o ≡ Some t → r ≡ t) → cond b (Some x) o ≡ Some t → cond b x r ≡ t
-some_step true x r t o f h = some_is x t h
+some_step true x r t o f h = some-inj x t h
 some_step false x r t o f h = f h
 
 pub image-some : (s : List (SVar × Sort)) (v : SVar) (t : Sort) → entry_of s v ≡ Some t → image s v ≡ t
@@ -78,19 +77,13 @@ var-from f s w e = elim (sort_cases s) [
   | inr h ↦ absurd (Var-not-Con w h.0 (map (apply_to f) h.1.0) (sym e ∙ ap (apply_to f) h.1.1 ∙ apply-con f h.0 h.1.0))
 ]
 
-head_of : (x y : Sort) (xs ys : List Sort) → x ∷ xs ≡ y ∷ ys → x ≡ y
-head_of x y xs ys e = cc
-
-tail_of : (x y : Sort) (xs ys : List Sort) → x ∷ xs ≡ y ∷ ys → xs ≡ ys
-tail_of x y xs ys e = cc
-
 -- what one map leaves as it is, another leaves too that fixes the same variables
 module _ (f g : SVar → Sort) (fixes : (w : SVar) → f w ≡ Var w → g w ≡ Var w) where
   all_fixed : (args : List Sort) → AllByRecursion (λ s. apply_to f s ≡ s → apply_to g s ≡ s) args → map (apply_to f) args ≡ args → map (apply_to g) args ≡ args
   all_fixed [] h e = refl
   all_fixed (s ∷ ss) h e =
-      let p = h.0 (head_of (apply_to f s) s (map (apply_to f) ss) ss e) in
-      let q = all_fixed ss h.1 (tail_of (apply_to f s) s (map (apply_to f) ss) ss e) in
+      let p = h.0 (cons-head (apply_to f s) s (map (apply_to f) ss) ss e) in
+      let q = all_fixed ss h.1 (cons-tail (apply_to f s) s (map (apply_to f) ss) ss e) in
       cc
 
   pub fixed : (s : Sort) → apply_to f s ≡ s → apply_to g s ≡ s
@@ -99,3 +92,22 @@ module _ (f g : SVar → Sort) (fixes : (w : SVar) → f w ≡ Var w → g w ≡
       sort_induction P
       (λ v e. apply-var g v ∙ fixes v (sym (apply-var f v) ∙ e))
       (λ c args h e. apply-con g c args ∙ ap (Con c) (all_fixed args h (Con-inj c c (map (apply_to f) args) args (sym (apply-con f c args) ∙ e)).1))
+
+-- a map with one more entry behind the others
+pub entry-more : (s : List (SVar × Sort)) (e : SVar × Sort) (v : SVar) → entry_of (s ++ e ∷ []) v ≡ cond (is_some (entry_of s v)) (entry_of s v) (cond (same_svar e.0 v) (Some e.1) None)
+entry-more [] e v = refl
+entry-more (x ∷ s) e v = by (same_svar x.0 v) (entry-more s e v)
+  where
+    by : (b : Bool) → entry_of (s ++ e ∷ []) v ≡ cond (is_some (entry_of s v)) (entry_of s v) (cond (same_svar e.0 v) (Some e.1) None) → cond b (Some x.1) (entry_of (s ++ e ∷ []) v) ≡ cond (is_some (cond b (Some x.1) (entry_of s v))) (cond b (Some x.1) (entry_of s v)) (cond (same_svar e.0 v) (Some e.1) None)
+    by true h = refl
+    by false h = h
+
+pub entry-kept : (s : List (SVar × Sort)) (e : SVar × Sort) (w : SVar) (t : Sort) → entry_of s w ≡ Some t → entry_of (s ++ e ∷ []) w ≡ Some t
+entry-kept s e w t h = entry-more s e w ∙ ap (λ o. cond (is_some o) o (cond (same_svar e.0 w) (Some e.1) None)) h
+
+pub entry-absent : (s : List (SVar × Sort)) (e : SVar × Sort) (w : SVar) → entry_of s w ≡ None → entry_of (s ++ e ∷ []) w ≡ cond (same_svar e.0 w) (Some e.1) None
+entry-absent s e w h = entry-more s e w ∙ ap (λ o. cond (is_some o) o (cond (same_svar e.0 w) (Some e.1) None)) h
+
+pub opt_cases : (o : Option Sort) → (o ≡ None) ⊎ ((t : Sort) × (o ≡ Some t))
+opt_cases None = inl refl
+opt_cases (Some t) = inr (t, refl)

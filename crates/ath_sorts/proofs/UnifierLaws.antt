@@ -1,12 +1,11 @@
 -- Least unifiers are unique, and every unifier factors through them.
-use Rattle.std.proofs.Common.{◌≡◌, ℕ, ◌<◌, ◌==◌, Bool, true, false, cond, nat_lt, IsTrue, List, [], ◌∷◌, ◌++◌, map, refl, sym, ◌∙◌, ap, subst, arith, ◌⊎◌, inl, inr}
+use Rattle.std.proofs.Common.{◌≡◌, ℕ, Bool, true, false, cond, nat_lt, List, [], ◌∷◌, sym, ◌∙◌, ap, arith, inl, inr}
 use Rattle.std.proofs.lemmas.Grind.{common_steps}
-use Rattle.std.specs.List.{AllByRecursion}
 use Rattle.ath_sorts.specs.declared.sorts.SVar.{SVar}
 use Rattle.ath_sorts.specs.declared.sorts.SVar.TheVariants.{Written, Made}
-use Rattle.ath_sorts.specs.declared.sorts.Sort.{Sort, Var, Con}
+use Rattle.ath_sorts.specs.declared.sorts.Sort.{Sort, Var}
 use Rattle.ath_sorts.specs.Sorts.{same_svar, image, apply_to}
-use Rattle.ath_sorts.specs.Unifiers.{Unifies, IsLeastUnifier, IsMostGeneral, comes_first, precedes, vars_read}
+use Rattle.ath_sorts.specs.Unifiers.{Unifies, IsLeastUnifier, comes_first, precedes, vars_read}
 use Rattle.ath_sorts.proofs.SubstitutionLaws.{apply-apply, apply-same, var-from, fixed}
 
 pub factors : (s : List (SVar × Sort)) (pairs : List (Sort × Sort)) (f : SVar → Sort) → IsLeastUnifier s pairs → Unifies f pairs → (v : SVar) → f v ≡ apply_to f (image s v)

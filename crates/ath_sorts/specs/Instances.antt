@@ -1,6 +1,6 @@
 -- Instances of sorts.
-use Rattle.std.specs.Prelude.{◌≡◌, Bool, true, false, ◌&&◌, ◌||◌, not, IsTrue, IsSome, ◌↔◌, List, [], ◌∷◌, map, Option, None, Some, Result, Ok, Err}
-use Rattle.std.specs.List.{list_any, AllByRecursion}
+use Rattle.std.specs.Prelude.{◌≡◌, Bool, ◌&&◌, not, IsTrue, IsSome, ◌↔◌, List, map, Option, None, Some}
+use Rattle.std.specs.List.{list_any}
 use Rattle.ath_sorts.specs.declared.sorts.SVar.{SVar}
 use Rattle.ath_sorts.specs.declared.sorts.Sort.{Sort, Var}
 use Rattle.ath_sorts.specs.Sorts.{same_svar, image, apply_to, occurs}

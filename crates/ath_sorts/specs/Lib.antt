@@ -3,8 +3,10 @@ pub mod Limits
 pub mod Signature
 pub mod Kept
 pub mod Declaring
+pub mod Validity
 pub mod Substitutions
 pub mod Unifiers
 pub mod Instances
 pub mod Matching
+pub mod Graphs
 pub mod Laws

@@ -1,14 +1,19 @@
 //! Sorts of a many-sorted language with sort variables, and signatures over them.
 #![tactic(auto)]
 
+mod graph;
 pub mod laws;
 pub mod limits;
 pub mod matching;
 pub mod signature;
 pub mod sorts;
 pub mod substitution;
+#[cfg(test)]
+mod tests;
+pub mod unification;
 
 pub use matching::instance;
 pub use signature::{SigError, Signature, Symbol};
 pub use sorts::{SVar, Sort, Sym};
 pub use substitution::{SortSubst, UnifyError};
+pub use unification::unify;

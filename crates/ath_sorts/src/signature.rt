@@ -105,7 +105,7 @@ impl Signature {
     }
 
     /// Adds a sort constructor with so many arguments.
-    pub fn add_domain(&mut self, name: Sym, arity: usize) -> Result<(), SigError>
+    pub fn add_domain(&mut self, _alloc: Global, name: Sym, arity: usize) -> Result<(), SigError>
         ensures answer { MatchFault (domain_fault self.old name arity) result }
         ensures after { self.new ≡ (if is_ok result then with_sort self.old name arity else self.old) }
     {

@@ -1,4 +1,4 @@
-use Rattle.std.proofs.Common.{◌≡◌, sym, ◌∙◌, ap, ◌∷◌, []}
+use Rattle.std.proofs.Common.{sym, ◌∙◌, ap, ◌∷◌, []}
 use Rattle.ath_sorts.specs.declared.sorts.Sort.{Con}
 use Rattle.ath_sorts.proofs.MatchingLaws.{turn, turn_refused, all_of_turns, extends-con-at, refuses-con-at, refused-is, extended-is}
 use Rattle.ath_sorts.proofs.matching.+match_sort.Goals as goal

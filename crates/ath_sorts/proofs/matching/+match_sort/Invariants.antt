@@ -1,4 +1,4 @@
-use Rattle.std.proofs.Common.{take, []}
+use Rattle.std.proofs.Common.{take}
 use Rattle.ath_sorts.specs.Matching.{Extends}
 use Rattle.ath_sorts.proofs.matching.+match_sort.Given as goal
 

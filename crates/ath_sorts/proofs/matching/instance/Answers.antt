@@ -1,8 +1,8 @@
-use Rattle.std.proofs.Common.{◌≡◌, sym, ◌∙◌, ap, ◌∷◌, [], List, subst}
+use Rattle.std.proofs.Common.{◌∷◌, [], List, subst}
 use Rattle.ath_sorts.specs.declared.sorts.SVar.{SVar}
 use Rattle.ath_sorts.specs.declared.sorts.Sort.{Sort}
 use Rattle.ath_sorts.specs.Instances.{IsInstance}
-use Rattle.ath_sorts.specs.Matching.{Refuses, MatchExtended}
+use Rattle.ath_sorts.specs.Matching.{MatchExtended}
 use Rattle.ath_sorts.proofs.MatchingLaws.{turn, turn_refused, all_of_turns, instance-of, refused-is, extended-is, refuses-all}
 use Rattle.ath_sorts.proofs.matching.instance.Goals as goal
 

@@ -1,4 +1,4 @@
-use Rattle.std.proofs.Common.{◌≡◌, ◌∙◌, ◌==◌}
+use Rattle.std.proofs.Common.{◌∙◌, ◌==◌}
 use Rattle.indexmap.proofs.CallerLemmas.{insert_entry-new}
 use Rattle.ath_sorts.proofs.signature.file.Goals as goal
 

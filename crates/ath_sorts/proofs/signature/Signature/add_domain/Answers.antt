@@ -1,4 +1,4 @@
-use Rattle.std.proofs.Common.{◌≡◌, ◌∙◌, ap, sym}
+use Rattle.std.proofs.Common.{◌∙◌, ap, sym}
 use Rattle.std.specs.Option.{is_some}
 use Rattle.ath_sorts.specs.Signature.{arity_of}
 use Rattle.ath_sorts.proofs.SignatureLaws.{arity-lookup, none_of}

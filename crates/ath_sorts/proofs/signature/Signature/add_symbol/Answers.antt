@@ -1,4 +1,4 @@
-use Rattle.std.proofs.Common.{◌≡◌, ◌∙◌, ap, sym, refl}
+use Rattle.std.proofs.Common.{◌∙◌, ap}
 use Rattle.ath_sorts.specs.Signature.{symbol_of}
 use Rattle.ath_sorts.proofs.SignatureLaws.{symbol-lookup, new_when_none, AreNamed-after}
 use Rattle.ath_sorts.proofs.signature.Signature.add_symbol.Goals as goal

@@ -1,4 +1,4 @@
-use Rattle.std.proofs.Common.{◌≡◌, ◌∙◌, ap}
+use Rattle.std.proofs.Common.{◌∙◌, ap}
 use Rattle.ath_sorts.specs.Signature.{arity_of}
 use Rattle.ath_sorts.proofs.SignatureLaws.{arity-lookup}
 use Rattle.ath_sorts.proofs.signature.Signature.sort_arity.Goals as goal

@@ -1,4 +1,4 @@
-use Rattle.std.proofs.Common.{◌≡◌, ◌∙◌, ap}
+use Rattle.std.proofs.Common.{◌∙◌, ap}
 use Rattle.ath_sorts.specs.Signature.{symbol_of}
 use Rattle.ath_sorts.proofs.SignatureLaws.{symbol-lookup}
 use Rattle.ath_sorts.proofs.signature.Signature.symbol.Goals as goal

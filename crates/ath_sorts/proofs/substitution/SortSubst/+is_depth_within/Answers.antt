@@ -1,4 +1,4 @@
-use Rattle.std.proofs.Common.{◌≡◌, sym, ◌∙◌, rules, arith, refl}
+use Rattle.std.proofs.Common.{arith}
 use Rattle.std.proofs.lemmas.Grind.{common_steps}
 use Rattle.ath_sorts.proofs.SortLaws.{depth-var, depth-con}
 use Rattle.ath_sorts.proofs.SubstitutionLaws.{apply-at-some, apply-at-none, apply-at-con}

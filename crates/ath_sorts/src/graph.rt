@@ -1,0 +1,452 @@
+// The graph on which sorts are unified.
+//
+// Each place of a sort is a node, and all places of one variable are one node. Nodes whose sorts a unifier has to make
+// equal are one class. A class is named by one of its nodes: by one with a constructor where it has such a node, and
+// else by the node of its least variable.
+
+ghost use Rattle.std.specs.Prelude.{◌≡◌, ℕ, ◌+◌, ◌-◌, ◌<◌, ◌≤◌, ◌++◌, ◌∷◌, [], IsTrue, IfOk, OnOk, List, length, map, replicate, slice_get, SomeIff, MatchBool, MatchOption, false, ◌↔◌, Option, Some, None};
+ghost use Rattle.std.specs.List.{list_all};
+ghost use Rattle.ath_sorts.specs.Sorts.{size_of, depth_of};
+ghost use Rattle.ath_sorts.specs.Limits.{is_small};
+ghost use Rattle.ath_sorts.specs.Graphs.{AddsSort, AgreesAt, Grows, HasLargeImage, HasSmallImages, HasTrees, IsGraph, IsNoBranch, IsNoLeaf, IsSolution, IsStuck, IsStuckAt, MarksTrees, MatchAcyclic, MatchApart, MatchClosed, MatchEquated, MatchFinding, MatchFindingAt, LeafFree, Solves, class_at, is_marked, is_ready, join_class, names_class, rename, stands_before, unmarked};
+ghost use Rattle.ath_sorts.specs.declared.sorts.Sort.{Sort};
+
+use crate::limits::{MOST_DEPTH, MOST_NODES};
+use crate::sorts::{SVar, Sort, Sym, is_same};
+use crate::substitution::SortSubst;
+use sqlite_items::Items;
+use std::alloc::{AllocError, Global};
+
+/// A place of a sort: a variable, or a constructor with the nodes of its arguments, which stand before it.
+#[derive(Debug, Drop)]
+pub enum Node {
+    Leaf(SVar),
+    Branch(Sym, Items<usize>),
+}
+
+#[derive(Debug, Drop)]
+pub struct Graph {
+    nodes: Items<Node>,
+    class: Items<usize>,
+}
+
+/// What is found where classes are compared with the arguments of their nodes.
+#[derive(Clone, Copy, Debug)]
+pub enum Finding {
+    Closed,
+    Clash,
+    Apart(usize, usize),
+}
+
+impl Graph {
+    pub fn new(alloc: Global) -> Graph
+        ensures { Solves result [] }
+    {
+        Graph {
+            nodes: Items::new(alloc),
+            class: Items::new(alloc),
+        }
+    }
+
+    /// Makes the sides of a pair equal; false where they can't be.
+    pub fn equate(&mut self, alloc: Global, left: &Sort, right: &Sort) -> Result<bool, AllocError>
+        requires { IsGraph self.old }
+        ensures { IfOk result (λ ok. (pairs : List (Sort × Sort)) → Solves self.old pairs → MatchEquated self.new (pairs ++ (left.now, right.now) ∷ []) ok) }
+    {
+        if is_same(left, right) {
+            return Ok(true);
+        }
+        let left = self.add(alloc, left)?;
+        let right = self.add(alloc, right)?;
+        self.join(left, right);
+        if !self.close() {
+            return Ok(false);
+        }
+        let acyclic = self.is_acyclic(alloc)?;
+        Ok(acyclic)
+    }
+
+    /// Adds the nodes of a sort, and answers its own.
+    fn add(&mut self, alloc: Global, sort: &Sort) -> Result<usize, AllocError>
+        ensures { IfOk result (AddsSort self.old self.new sort.now) }
+    {
+        match sort {
+            Sort::Var(v) => self.add_variable(*v),
+            Sort::Con(name, args) => {
+                let mut children = Items::new(alloc);
+                for arg in args.as_slice() {
+                    let child = self.add(alloc, arg)?;
+                    children.push(child)?;
+                }
+                let added = self.push(Node::Branch(*name, children))?;
+                Ok(added)
+            }
+        }
+    }
+
+    fn add_variable(&mut self, v: SVar) -> Result<usize, AllocError>
+        ensures { IfOk result (AddsSort self.old self.new (Sort.Var v)) }
+    {
+        if let Some(at) = leaf_of(self.nodes.as_slice(), v) {
+            return Ok(at);
+        }
+        let added = self.push(Node::Leaf(v))?;
+        Ok(added)
+    }
+
+    /// Adds a node as a class of its own.
+    fn push(&mut self, node: Node) -> Result<usize, AllocError>
+        ensures at { IfOk result (λ at. at ≡ length self.old.nodes) }
+        ensures nodes { IfOk result (λ at. self.new.nodes ≡ self.old.nodes ++ node ∷ []) }
+        ensures class { IfOk result (λ at. self.new.class ≡ self.old.class ++ at ∷ []) }
+    {
+        let at = self.nodes.len();
+        self.nodes.push(node)?;
+        self.class.push(at)?;
+        Ok(at)
+    }
+
+    fn class_of(&self, at: usize) -> usize
+        ensures { result ≡ class_at self.now.class at }
+    {
+        class_at(self.class.as_slice(), at)
+    }
+
+    /// Makes the classes of two nodes one.
+    fn join(&mut self, a: usize, b: usize)
+        ensures nodes { self.new.nodes ≡ self.old.nodes }
+        ensures class { self.new.class ≡ join_class self.old.nodes self.old.class a b }
+    {
+        let a = self.class_of(a);
+        let b = self.class_of(b);
+        if a == b {
+            return;
+        }
+        if names_class(self.nodes.as_slice(), a, b) {
+            replace(&mut self.class, b, a);
+        } else {
+            replace(&mut self.class, a, b);
+        }
+    }
+
+    /// Joins classes until nodes of one class have arguments of one class; false where two constructors clash.
+    fn close(&mut self) -> bool
+        requires { IsGraph self.old }
+        ensures { MatchClosed self.old self.new result }
+    {
+        'joins: loop {
+            match self.finding() {
+                Finding::Closed => return true,
+                Finding::Clash => return false,
+                Finding::Apart(a, b) => self.join(a, b),
+            }
+        }
+    }
+
+    fn finding(&self) -> Finding
+        requires { IsGraph self.now }
+        ensures { MatchFinding self.now result }
+    {
+        for at in 0..self.nodes.len() {
+            match self.finding_at(at) {
+                Finding::Closed => {}
+                found => return found,
+            }
+        }
+        Finding::Closed
+    }
+
+    fn finding_at(&self, at: usize) -> Finding
+        requires graph { IsGraph self.now }
+        requires within { at < length self.now.nodes }
+        ensures { MatchFindingAt self.now at result }
+    {
+        let nodes = self.nodes.as_slice();
+        let Some((a, xs)) = branch_at(nodes, at) else {
+            return Finding::Closed;
+        };
+        let Some((b, ys)) = branch_at(nodes, self.class_of(at)) else {
+            return Finding::Closed;
+        };
+        if a.0 != b.0 {
+            return Finding::Clash;
+        }
+        if xs.len() != ys.len() {
+            return Finding::Clash;
+        }
+        first_apart(self.class.as_slice(), xs, ys)
+    }
+
+    /// Whether each class stands for a tree.
+    fn is_acyclic(&self, alloc: Global) -> Result<bool, AllocError>
+        requires { IsGraph self.now }
+        ensures { IfOk result (MatchAcyclic self.now) }
+    {
+        let mut grown = vec![in alloc; false; self.nodes.len()]?;
+        'passes: while self.grow(&mut grown) {}
+        Ok(are_all_true(&grown))
+    }
+
+    /// Marks the nodes whose arguments are marked; whether there is a new one.
+    fn grow(&self, grown: &mut Vec<bool>) -> bool
+        ensures trees { MarksTrees self.now grown.old.items → MarksTrees self.now grown.new.items }
+        ensures even { length grown.new.items ≡ length grown.old.items }
+        ensures fewer { IsTrue result → unmarked grown.new.items < unmarked grown.old.items }
+        ensures stuck { result ≡ false → IsStuck self.now grown.new.items }
+    {
+        let mut any = false;
+        for at in 0..grown.len() {
+            any |= self.mark(at, grown);
+        }
+        any
+    }
+
+    /// Marks the node where its arguments are marked; whether the mark is new.
+    fn mark(&self, at: usize, grown: &mut Vec<bool>) -> bool
+        requires { at < length grown.old.items }
+        ensures even { length grown.new.items ≡ length grown.old.items }
+        ensures trees { MarksTrees self.now grown.old.items → MarksTrees self.now grown.new.items }
+        ensures fewer { IsTrue result → unmarked grown.new.items < unmarked grown.old.items }
+        ensures same { result ≡ false → grown.new.items ≡ grown.old.items }
+        ensures stuck { result ≡ false → IsStuckAt self.now grown.new.items at }
+    {
+        if is_marked(grown, at) || !self.is_ready(at, grown) {
+            return false;
+        }
+        grown[at] = true;
+        true
+    }
+
+    fn is_ready(&self, at: usize, grown: &[bool]) -> bool
+        ensures { result ≡ is_ready self.now grown.now at }
+    {
+        match self.nodes.as_slice().get(self.class_of(at)) {
+            Some(Node::Leaf(_)) => true,
+            Some(Node::Branch(_, children)) => are_all_marked(children.as_slice(), grown),
+            None => false,
+        }
+    }
+
+    /// Whether the tree of each variable is within the limits.
+    pub fn are_images_within_limits(&self) -> bool
+        requires { HasTrees self.now }
+        ensures { MatchBool result (HasSmallImages self.now) (HasLargeImage self.now) }
+    {
+        for at in 0..self.nodes.len() {
+            if leaf_at(self.nodes.as_slice(), at).is_some() && !self.is_small(at) {
+                return false;
+            }
+        }
+        true
+    }
+
+    /// Whether the node's tree is within the limits.
+    fn is_small(&self, at: usize) -> bool
+        ensures { (t : Sort) → Grows self.now at t → result ≡ is_small t }
+    {
+        self.nodes_left(at, MOST_NODES, MOST_DEPTH).is_some()
+    }
+
+    /// The map from each variable that isn't the name of its class to the tree of its class.
+    pub fn solution(&self, alloc: Global) -> Result<SortSubst, AllocError>
+        requires graph { IsGraph self.now }
+        requires trees { HasTrees self.now }
+        requires small { HasSmallImages self.now }
+        ensures { IfOk result (IsSolution self.now (length self.now.nodes)) }
+    {
+        let mut solution = SortSubst::new(alloc);
+        for at in 0..self.nodes.len() {
+            self.add_image(alloc, at, &mut solution)?;
+        }
+        Ok(solution)
+    }
+
+    /// Adds the image of the variable at the node, if it has one that isn't the name of its class.
+    fn add_image(
+        &self,
+        alloc: Global,
+        at: usize,
+        solution: &mut SortSubst,
+    ) -> Result<(), AllocError>
+        requires graph { IsGraph self.now }
+        requires trees { HasTrees self.now }
+        requires small { HasSmallImages self.now }
+        requires within { at < length self.now.nodes }
+        ensures { OnOk result (IsSolution self.now at solution.old → IsSolution self.now (at + 1) solution.new) }
+    {
+        let Some(v) = leaf_at(self.nodes.as_slice(), at) else {
+            return Ok(());
+        };
+        if self.class_of(at) == at {
+            return Ok(());
+        }
+        let image = self.tree(alloc, at, MOST_DEPTH)?;
+        solution.push(v, image)?;
+        Ok(())
+    }
+
+    fn tree(&self, alloc: Global, at: usize, depth: usize) -> Result<Sort, AllocError>
+        requires { (t : Sort) × (Grows self.now at t × (depth_of t ≤ depth)) }
+        ensures { IfOk result (Grows self.now at) }
+    {
+        match &self.nodes.as_slice()[self.class_of(at)] {
+            Node::Leaf(v) => Ok(Sort::Var(*v)),
+            Node::Branch(name, children) => {
+                let mut args = Items::new(alloc);
+                for child in children.as_slice() {
+                    let arg = self.tree(alloc, *child, depth - 1)?;
+                    args.push(arg)?;
+                }
+                Ok(Sort::Con(*name, args))
+            }
+        }
+    }
+
+    /// What a budget of nodes leaves after those of the node's tree, or None where it or the depth doesn't suffice.
+    fn nodes_left(&self, at: usize, budget: usize, depth: usize) -> Option<usize>
+        ensures { (t : Sort) → Grows self.now at t → SomeIff result ((size_of t ≤ budget) × (depth_of t ≤ depth)) (budget - size_of t) }
+    {
+        if budget == 0 || depth == 0 {
+            return None;
+        }
+        let Some((_, children)) = branch_at(self.nodes.as_slice(), self.class_of(at)) else {
+            return Some(budget - 1);
+        };
+        let mut left = budget - 1;
+        for child in children {
+            left = self.nodes_left(*child, left, depth - 1)?;
+        }
+        Some(left)
+    }
+}
+
+fn leaf_of(nodes: &[Node], v: SVar) -> Option<usize>
+    ensures { MatchOption result (LeafFree nodes.now v) (λ at. slice_get nodes.now at ≡ Some (Node.Leaf v)) }
+{
+    for at in 0..nodes.len() {
+        if is_leaf(&nodes[at], v) {
+            return Some(at);
+        }
+    }
+    None
+}
+
+fn is_leaf(node: &Node, v: SVar) -> bool
+    ensures { IsTrue result ↔ (node.now ≡ Node.Leaf v) }
+{
+    match node {
+        Node::Leaf(w) => w.is_same(v),
+        Node::Branch(_, _) => false,
+    }
+}
+
+/// The constructor and the arguments at a node, if it has one.
+fn branch_at(nodes: &[Node], at: usize) -> Option<(Sym, &[usize])>
+    ensures { MatchOption result (IsNoBranch (slice_get nodes.now at)) (λ b. slice_get nodes.now at ≡ Some (Node.Branch b.0 b.1.now)) }
+{
+    match nodes.get(at) {
+        Some(Node::Branch(name, children)) => Some((*name, children.as_slice())),
+        Some(Node::Leaf(_)) => None,
+        None => None,
+    }
+}
+
+/// The variable at a node, if it has one.
+fn leaf_at(nodes: &[Node], at: usize) -> Option<SVar>
+    ensures { MatchOption result (IsNoLeaf (slice_get nodes.now at)) (λ v. slice_get nodes.now at ≡ Some (Node.Leaf v)) }
+{
+    match nodes.get(at) {
+        Some(Node::Leaf(v)) => Some(*v),
+        Some(Node::Branch(_, _)) => None,
+        None => None,
+    }
+}
+
+fn class_at(class: &[usize], at: usize) -> usize
+    ensures { result ≡ class_at class.now at }
+{
+    match class.get(at) {
+        Some(name) => *name,
+        None => at,
+    }
+}
+
+/// Whether a rather than b is to name the class that they are in.
+fn names_class(nodes: &[Node], a: usize, b: usize) -> bool
+    ensures { result ≡ names_class (slice_get nodes.now a) a (slice_get nodes.now b) b }
+{
+    match (nodes.get(a), nodes.get(b)) {
+        (Some(Node::Leaf(v)), Some(Node::Leaf(w))) => stands_before(*v, a, *w, b),
+        (Some(Node::Leaf(_)), _) => false,
+        _ => true,
+    }
+}
+
+fn stands_before(v: SVar, at_v: usize, w: SVar, at_w: usize) -> bool
+    ensures { result ≡ stands_before v at_v w at_w }
+{
+    match (v, w) {
+        (SVar::Written(_), SVar::Written(_)) => at_v < at_w,
+        (SVar::Written(_), SVar::Made(_)) => true,
+        (SVar::Made(_), SVar::Written(_)) => false,
+        (SVar::Made(m), SVar::Made(n)) => m < n,
+    }
+}
+
+fn replace(class: &mut Items<usize>, old: usize, new: usize)
+    ensures { class.new ≡ map (rename old new) class.old }
+{
+    for at in 0..class.len() {
+        let name = class_at(class.as_slice(), at);
+        class.set(at, rename(old, new, name));
+    }
+}
+
+fn rename(old: usize, new: usize, name: usize) -> usize
+    ensures { result ≡ rename old new name }
+{
+    if name == old { new } else { name }
+}
+
+fn first_apart(class: &[usize], xs: &[usize], ys: &[usize]) -> Finding
+    requires { length xs.now ≡ length ys.now }
+    ensures { MatchApart class.now xs.now ys.now result }
+{
+    for i in 0..xs.len() {
+        if class_at(class, xs[i]) != class_at(class, ys[i]) {
+            return Finding::Apart(xs[i], ys[i]);
+        }
+    }
+    Finding::Closed
+}
+
+fn are_all_marked(children: &[usize], grown: &[bool]) -> bool
+    ensures { result ≡ list_all (is_marked grown.now) children.now }
+{
+    for child in children {
+        if !is_marked(grown, *child) {
+            return false;
+        }
+    }
+    true
+}
+
+fn is_marked(grown: &[bool], at: usize) -> bool
+    ensures { result ≡ is_marked grown.now at }
+{
+    match grown.get(at) {
+        Some(mark) => *mark,
+        None => false,
+    }
+}
+
+fn are_all_true(marks: &[bool]) -> bool
+    ensures { result ≡ list_all (λ m. m) marks.now }
+{
+    for mark in marks {
+        if !*mark {
+            return false;
+        }
+    }
+    true
+}

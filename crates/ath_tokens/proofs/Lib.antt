@@ -1,0 +1,7 @@
+pub mod Longest
+mod Scans
+mod FirstBytes
+mod Strings
+mod HexLaws
+mod LexesLaws
+mod TellsLaws

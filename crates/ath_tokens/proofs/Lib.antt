@@ -5,3 +5,5 @@ mod Strings
 mod HexLaws
 mod LexesLaws
 mod TellsLaws
+pub mod CutLaws
+mod Rows

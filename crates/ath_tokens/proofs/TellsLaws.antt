@@ -17,10 +17,10 @@ use Rattle.ath_tokens.specs.Next.{names_with, token_of}
 use Rattle.ath_tokens.specs.Scan.{Lexes, Numbers, Tells}
 use Rattle.ath_tokens.proofs.FirstBytes.{if-true, if-false}
 
-answer : ℕ → List ℕ → Option (ℕ × Lexeme) → Cut
+unfoldable pub answer : ℕ → List ℕ → Option (ℕ × Lexeme) → Cut
 answer at rest o = elim o [ Some t ↦ if nat_lt 200 (name_len t.1) then fault NameTooLong at else found t.1 at (at + t.0) | None ↦ let f = fault_of rest in fault f.0 (at + f.1) ]
 
-cut-is : (rest : List ℕ) (at : ℕ) → 0 < length rest → cut_at at rest ≡ answer at rest (longest (length rest) rest)
+pub cut-is : (rest : List ℕ) (at : ℕ) → 0 < length rest → cut_at at rest ≡ answer at rest (longest (length rest) rest)
 unfolding answer
 cut-is [] at some = absurd (omega arith)
 cut-is (b ∷ bs) at some = refl

@@ -75,6 +75,15 @@ next_of text from =
     let gap = gap_len false rest in
     if is_utf8 (take gap rest) then cut_at (from + gap) (drop gap rest) else fault BadUtf8 (from + utf8_valid_len (take gap rest))
 
+-- what comes from a byte on, one after another, as far as the end or the first fault: at most n
+abbrev pub cuts : ℕ → List ℕ → ℕ → List Cut
+cuts zero text from = []
+cuts (suc n) text from = elim (next_of text from) [ found l start end ↦ found l start end ∷ cuts n text end | ended ↦ ended ∷ [] | fault kind at ↦ fault kind at ∷ [] ]
+
+-- the whole cut of a text, which has no more tokens than bytes
+abbrev pub cuts_of : List ℕ → List Cut
+cuts_of text = cuts (suc (length text)) text 0
+
 -- the place of a byte: line and column count from 1, the column in bytes
 abbrev pub place_of : ℕ → List ℕ → ℕ → Pos
 place_of file text at = record {

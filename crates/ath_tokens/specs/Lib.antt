@@ -7,3 +7,4 @@ pub mod Mark
 pub mod Scan
 pub mod Strings
 pub mod Next
+pub mod Laws

@@ -1,15 +1,15 @@
 -- The longest token, by its first byte.
-use Rattle.std.proofs.Common.{◌≡◌, ◌≢◌, ℕ, zero, suc, ◌+◌, ◌-◌, ◌<◌, ◌≤◌, min, Bool, true, false, cond, ◌&&◌, ◌||◌, not, List, [], ◌∷◌, length, take, drop, slice_index, Option, Some, None, refl, sym, ap, subst, ◌∙◌, true≢false, ⊎_elim, arith, nat_lt, ◌==◌, if◌then◌else◌}
-use Rattle.std.proofs.lemmas.List.{length-take, length-drop}
+use Rattle.std.proofs.Common.{◌≡◌, ℕ, zero, suc, ◌+◌, ◌-◌, ◌<◌, ◌≤◌, min, Bool, true, false, cond, ◌&&◌, not, List, [], ◌∷◌, length, take, drop, slice_index, Some, None, refl, sym, ap, ◌∙◌, arith, ◌==◌}
+use Rattle.std.proofs.lemmas.List.{length-drop}
 use Rattle.std.proofs.lemmas.List.Sums.{prefix_len-le-length}
 use Rattle.std.specs.Char.{is_ascii_digit}
 use Rattle.std.specs.List.{list_all, prefix_len}
 use Rattle.ath_tokens.specs.Bytes.{is_word_char, begins_part, is_at_part, is_punct}
-use Rattle.ath_tokens.specs.Spelling.{Lexeme, word, var, sort_var, str, punct, becomes, is_part, goes_on_word, is_index, number, indexed, spells_var, spells_str, spells_punct, spells}
+use Rattle.ath_tokens.specs.Spelling.{word, var, sort_var, punct, becomes, is_part, goes_on_word, is_index, number, indexed, spells_var, spells_punct, spells}
 use Rattle.ath_tokens.specs.Cut.{longest}
-use Rattle.ath_tokens.specs.Scan.{goes_on, word_more, is_at_zero, index_digits}
+use Rattle.ath_tokens.specs.Scan.{word_more, is_at_zero, index_digits}
 use Rattle.ath_tokens.proofs.Longest.{first-at, first-none}
-use Rattle.ath_tokens.proofs.Scans.{and-false, all-front, all-longer, prefix_len-take, prefix-true, take-take-le, drop-take, at_part-take, word-front, word-longer, word_more-le, index-front, index-longer, index-zero, part-some, no_part-take}
+use Rattle.ath_tokens.proofs.Scans.{and-false, all-front, all-longer, prefix_len-take, take-take-le, drop-take, at_part-take, word-front, word-longer, word_more-le, index-front, index-longer, index-zero, part-some, no_part-take}
 
 pub if-true : {X : Type 0} (t : Bool) (x y : X) → t ≡ true → cond t x y ≡ x
 if-true t x y e = ap (λ b. cond b x y) e

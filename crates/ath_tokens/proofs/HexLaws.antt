@@ -1,8 +1,8 @@
 -- A wrong second digit after `\x`.
-use Rattle.std.proofs.Common.{◌≡◌, ℕ, ◌<◌, ◌-◌, true, false, cond, List, [], ◌∷◌, length, slice_index, refl, ap, ◌∙◌, arith, subst, sym}
+use Rattle.std.proofs.Common.{◌≡◌, ℕ, ◌<◌, ◌-◌, true, false, List, [], ◌∷◌, length, slice_index, ap, ◌∙◌, arith, subst, sym}
 use Rattle.std.specs.Char.{is_ascii_hexdigit}
 use Rattle.std.specs.Int.{is_in_range}
-use Rattle.ath_tokens.specs.Quoted.{plain, escape, hex, hex_low, Turn, goes_on, breaks, turn, Quoted, wrong, after, quoted}
+use Rattle.ath_tokens.specs.Quoted.{plain, hex, hex_low, wrong, after, quoted}
 use Rattle.ath_tokens.proofs.FirstBytes.{if-true, if-false}
 use Rattle.ath_tokens.proofs.Strings.{going, going-is}
 

@@ -1,5 +1,5 @@
 -- What the steps of reading a token find is the longest token, or the fault there.
-use Rattle.std.proofs.Common.{◌≡◌, ℕ, zero, suc, ◌+◌, ◌-◌, ◌<◌, ◌≤◌, Bool, true, false, cond, not, ◌&&◌, ◌||◌, List, [], ◌∷◌, length, take, drop, slice_index, Option, Some, None, refl, sym, ap, subst, ◌∙◌, true≢false, ⊎_elim, arith, ◌==◌, eqb-true}
+use Rattle.std.proofs.Common.{◌≡◌, ℕ, zero, suc, ◌+◌, ◌<◌, ◌≤◌, Bool, true, false, cond, ◌&&◌, ◌||◌, List, [], ◌∷◌, length, take, drop, slice_index, Some, None, refl, sym, ap, subst, ◌∙◌, true≢false, ⊎_elim, arith, ◌==◌, eqb-true}
 use Rattle.std.proofs.lemmas.Bool.{cases_lt, and_parts}
 use Rattle.std.proofs.lemmas.Bool.Decides.{nat_tests}
 use Rattle.std.proofs.lemmas.List.{length-take, length-drop}
@@ -9,20 +9,18 @@ use Rattle.std.proofs.lemmas.Str.Ascii.{IsAscii-nil, IsAscii-cons}
 use Rattle.std.specs.Char.{is_ascii_digit}
 use Rattle.std.specs.List.{list_all, prefix_len}
 use Rattle.std.specs.Str.{IsAscii, is_utf8}
-use Rattle.std.specs.Str.Lossy.{utf8_valid_len}
-use Rattle.ath_tokens.specs.declared.tokens.LexKind.{LexKind}
 use Rattle.ath_tokens.specs.declared.lexeme.Lexed.{Lexed}
 use Rattle.ath_tokens.specs.declared.lexeme.Lexed.TheVariants.{Word, Var, SortVar, Str, Punct, Becomes, Fault}
 use Rattle.ath_tokens.specs.declared.quoted.Quoted.{Quoted as Answer}
 use Rattle.ath_tokens.specs.declared.quoted.Quoted.TheVariants.{Closed, Wrong, Unclosed}
 use Rattle.ath_tokens.specs.Bytes.{is_word_char, begins_part, is_at_part, is_punct}
 use Rattle.ath_tokens.specs.Quoted.{plain, closed, wrong, unclosed, quoted}
-use Rattle.ath_tokens.specs.Spelling.{word, var, sort_var, str, punct, becomes, goes_on_word, number}
-use Rattle.ath_tokens.specs.Cut.{longest, fault_in, fault_of}
+use Rattle.ath_tokens.specs.Spelling.{word, var, sort_var, str, becomes, goes_on_word, number}
+use Rattle.ath_tokens.specs.Cut.{longest, fault_in}
 use Rattle.ath_tokens.specs.Scan.{word_more, index_digits, Faults, Lexes}
 use Rattle.ath_tokens.specs.Strings.{as_quoted, fault_lexed, string_lexed, fault_at, IsWithin}
 use Rattle.ath_tokens.proofs.Scans.{all-front, all-within, word-front, word_more-le}
-use Rattle.ath_tokens.proofs.FirstBytes.{if-true, if-false, longest-word, longest-sort_var, longest-no_sort_var, longest-var, longest-var_index, longest-no_var_part, longest-punct, longest-nothing, longest-becomes, HasIndex, has_index}
+use Rattle.ath_tokens.proofs.FirstBytes.{longest-word, longest-sort_var, longest-no_sort_var, longest-var, longest-var_index, longest-no_var_part, longest-punct, longest-nothing, longest-becomes, HasIndex, has_index}
 use Rattle.ath_tokens.proofs.Strings.{longest-str, longest-bad_str, longest-no_str}
 
 -- names are ASCII

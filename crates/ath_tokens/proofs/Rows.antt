@@ -1,11 +1,11 @@
 -- Worked rows: texts and their cuts.
-use Rattle.std.proofs.Common.{◌≡◌, true, false, List, ℕ, [], ◌∷◌, ◌++◌, codes, refl, length, Some, None, take}
+use Rattle.std.proofs.Common.{◌≡◌, [], ◌∷◌, ◌++◌, codes, refl}
 use lib.Utf8.{encode}
 use Rattle.std.specs.Str.{is_utf8, chars}
 use Rattle.std.specs.Str.Lossy.{utf8_valid_len}
 use Rattle.ath_tokens.specs.declared.tokens.LexKind.TheVariants.{BadUtf8, BadChar, OpenString}
-use Rattle.ath_tokens.specs.Spelling.{word, var, sort_var, str, punct, becomes, spells}
-use Rattle.ath_tokens.specs.Cut.{found, ended, fault, next_of, cuts_of, longest, gap_len, cut_at}
+use Rattle.ath_tokens.specs.Spelling.{word, var, sort_var, str, punct, becomes}
+use Rattle.ath_tokens.specs.Cut.{found, ended, fault, cuts_of}
 
 declaration : cuts_of (codes "(declare A Boolean)") ≡ found (punct 40) 0 1 ∷ found (word (codes "declare")) 1 8 ∷ found (word (codes "A")) 9 10 ∷ found (word (codes "Boolean")) 11 18 ∷ found (punct 41) 18 19 ∷ ended ∷ []
 unfolding is_utf8 utf8_valid_len chars encode

@@ -1,14 +1,13 @@
 -- How words, parts and indices end where they are cut.
-use Rattle.std.proofs.Common.{◌≡◌, ℕ, zero, suc, ◌+◌, ◌-◌, ◌<◌, ◌≤◌, min, Bool, true, false, cond, ◌&&◌, ◌||◌, not, List, [], ◌∷◌, length, take, drop, Option, Some, None, refl, sym, ap, subst, ◌∙◌, true≢false, ⊎_elim, arith, nat_lt, ◌==◌, get_or}
+use Rattle.std.proofs.Common.{◌≡◌, ℕ, zero, suc, ◌+◌, ◌<◌, ◌≤◌, min, Bool, true, false, cond, ◌&&◌, ◌||◌, not, List, [], ◌∷◌, length, take, drop, refl, sym, ap, ◌∙◌, true≢false, ⊎_elim, arith, nat_lt, ◌==◌, get_or}
 use Rattle.std.proofs.Math.Seq.{drop-cons}
 use Rattle.std.proofs.lemmas.List.{length-take}
 use Rattle.std.proofs.lemmas.Bool.{and_parts, lt-ltb, le-ltb, cases_lt}
-use Rattle.std.proofs.lemmas.Grind.{common_steps}
 use Rattle.std.specs.Char.{is_ascii_digit}
 use Rattle.std.specs.List.{list_all, prefix_len}
 use Rattle.ath_tokens.specs.Bytes.{is_word_char, begins_part, is_at_part}
-use Rattle.ath_tokens.specs.Spelling.{goes_on_word, is_index, is_part}
-use Rattle.ath_tokens.specs.Scan.{goes_on, word_more, is_at_zero, index_digits}
+use Rattle.ath_tokens.specs.Spelling.{goes_on_word, is_index}
+use Rattle.ath_tokens.specs.Scan.{goes_on, word_more, is_at_zero}
 
 pub and-false : (t : Bool) → (t && false) ≡ false
 and-false true = refl

@@ -1,10 +1,10 @@
 -- The longest token of a string.
-use Rattle.std.proofs.Common.{◌≡◌, ℕ, zero, suc, ◌+◌, ◌-◌, ◌<◌, ◌≤◌, Bool, true, false, cond, ◌&&◌, List, [], ◌∷◌, ◌++◌, length, take, drop, Option, Some, None, refl, sym, ap, subst, ◌∙◌, true≢false, ⊎_elim, arith, ◌==◌, eq-eqb}
+use Rattle.std.proofs.Common.{◌≡◌, ℕ, zero, suc, ◌+◌, ◌<◌, true, false, ◌&&◌, List, [], ◌∷◌, ◌++◌, length, take, Some, None, refl, sym, ap, ◌∙◌, arith, ◌==◌, eq-eqb}
 use Rattle.std.proofs.lemmas.List.{length-take, length-take-le}
 use Rattle.std.proofs.lemmas.Bool.{ne_eqb}
 use Rattle.std.specs.Str.{is_utf8}
 use Rattle.ath_tokens.specs.Quoted.{Inside, plain, Turn, goes_on, closes, breaks, turn, Quoted, closed, wrong, unclosed, after, quoted}
-use Rattle.ath_tokens.specs.Spelling.{Lexeme, str, str_of, spells_str}
+use Rattle.ath_tokens.specs.Spelling.{str, str_of, spells_str}
 use Rattle.ath_tokens.specs.Cut.{longest}
 use Rattle.ath_tokens.proofs.Longest.{first-at, first-none}
 use Rattle.ath_tokens.proofs.Scans.{and-false, take-take-le}

@@ -1,19 +1,14 @@
 -- What is told of the longest token, or of the fault, is what the cut of the text has there.
-use Rattle.std.proofs.Common.{◌≡◌, ℕ, zero, suc, ◌+◌, ◌<◌, ◌≤◌, Bool, true, false, cond, List, [], ◌∷◌, length, take, drop, Option, Some, None, Ok, Err, Result, refl, sym, ap, subst, ◌∙◌, ◌⊎◌, inl, inr, ⊎_elim, arith, nat_lt, if◌then◌else◌}
+use Rattle.std.proofs.Common.{◌≡◌, ℕ, ◌+◌, ◌<◌, ◌≤◌, List, [], ◌∷◌, length, take, drop, Option, Some, None, Ok, Err, refl, sym, ap, ◌∙◌, inl, inr, ⊎_elim, arith, nat_lt, if◌then◌else◌}
 use Rattle.std.proofs.lemmas.Bool.{lt-ltb, le-ltb}
-use Rattle.std.proofs.lemmas.List.{length-take, length-take-le, length-drop}
 use Rattle.std.specs.Option.{option_map}
 use Rattle.ath_sorts.specs.declared.sorts.Sym.{Sym}
-use Rattle.ath_names.specs.Names.{number_of, interned}
-use Rattle.ath_tokens.specs.declared.lexeme.Lexed.{Lexed}
 use Rattle.ath_tokens.specs.declared.lexeme.Lexed.TheVariants.{Word, Var, SortVar, Str, Punct, Becomes, Fault}
 use Rattle.ath_tokens.specs.declared.tokens.LexKind.{LexKind}
-use Rattle.ath_tokens.specs.declared.tokens.LexKind.TheVariants.{NameTooLong, Memory}
-use Rattle.ath_tokens.specs.declared.tokens.Token.{Token}
+use Rattle.ath_tokens.specs.declared.tokens.LexKind.TheVariants.{NameTooLong}
 use Rattle.ath_tokens.specs.declared.tokens.Token.TheVariants.{Word as WordToken, Var as VarToken, SortVar as SortVarToken, Str as StrToken, Punct as PunctToken, Becomes as BecomesToken}
 use Rattle.ath_tokens.specs.Spelling.{Lexeme, word, var, sort_var, str, punct, becomes}
 use Rattle.ath_tokens.specs.Cut.{longest, name_len, Cut, found, fault, fault_of, cut_at}
-use Rattle.ath_tokens.specs.Next.{names_with, token_of}
 use Rattle.ath_tokens.specs.Scan.{Lexes, Numbers, Tells}
 use Rattle.ath_tokens.proofs.FirstBytes.{if-true, if-false}
 

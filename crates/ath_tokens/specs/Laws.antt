@@ -1,9 +1,8 @@
 -- What the laws of the cut say.
 use Rattle.std.specs.Prelude.{◌≡◌, ℕ, ◌+◌, ◌-◌, ◌<◌, ◌≤◌, false, true, List, length, take, drop, Some, None}
 use Rattle.std.specs.Str.{is_utf8}
-use Rattle.ath_tokens.specs.declared.tokens.LexKind.{LexKind}
 use Rattle.ath_tokens.specs.Spelling.{Lexeme, spells}
-use Rattle.ath_tokens.specs.Cut.{gap_len, name_len, found, ended, fault, next_of}
+use Rattle.ath_tokens.specs.Cut.{gap_len, name_len, found, ended, next_of}
 
 -- blanks and comments from a byte on, all UTF-8, up to another byte
 pub record IsGap (text : List ℕ) (from to : ℕ) : Type 0 where

@@ -1,7 +1,6 @@
 -- What the cutting of a text has come to, and what the next step of it answers.
 use Rattle.std.specs.Prelude.{◌≡◌, ℕ, List, length, Option, Some, None, Result, Ok, Err, ◌⊎◌}
 use Rattle.std.specs.Option.{option_map}
-use Rattle.ath_sorts.specs.declared.sorts.Sym.{Sym}
 use Rattle.ath_syntax.specs.declared.place.Pos.{Pos}
 use Rattle.ath_names.specs.Names.{number_of, interned}
 use Rattle.ath_tokens.specs.declared.tokens.LexError.{LexError}

@@ -1,6 +1,6 @@
 -- The text of a string after its opening quote, with its escapes: `\"`, `\\`, `\n`, `\t` and `\xHH`, whose two
 -- hexadecimal digits have a value below 80 hexadecimal.
-use Rattle.std.specs.Prelude.{ℕ, zero, ◌+◌, ◌-◌, ◌*◌, ◌||◌, ◌==◌, List, [], ◌∷◌, ◌++◌, if◌then◌else◌}
+use Rattle.std.specs.Prelude.{ℕ, ◌+◌, ◌-◌, ◌*◌, ◌||◌, ◌==◌, List, [], ◌∷◌, ◌++◌, if◌then◌else◌}
 use Rattle.std.specs.Char.{is_ascii_hexdigit}
 use Rattle.std.specs.Int.{is_in_range}
 use Rattle.ath_tokens.specs.Bytes.{hex_value}

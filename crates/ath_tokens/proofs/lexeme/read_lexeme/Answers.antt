@@ -1,4 +1,4 @@
-use Rattle.std.proofs.Common.{sym, ◌∙◌, ap}
+use Rattle.std.proofs.Common.{sym, ◌∙◌}
 use Rattle.ath_tokens.proofs.LexesLaws.{lexes-word}
 use Rattle.ath_tokens.proofs.lexeme.read_lexeme.Goals as goal
 

@@ -18,7 +18,7 @@ use sqlite_items::Items;
 use std::alloc::{AllocError, Global};
 
 /// The longest token at the front of a text, or the fault there.
-#[derive(Debug, Drop)]
+#[derive(Drop)]
 pub(crate) enum Lexed {
     Word {
         len: usize,
@@ -72,6 +72,7 @@ pub(crate) fn utf8_fault(bytes: &[u8]) -> Option<usize>
     }
 }
 
+/// The longest token at the front, where no blank or comment stands.
 pub(crate) fn read_lexeme(alloc: Global, rest: &[u8]) -> Result<Lexed, AllocError>
     requires { 0 < length rest.now }
     ensures { IfOk result (Lexes rest.now) }
@@ -90,6 +91,7 @@ pub(crate) fn read_lexeme(alloc: Global, rest: &[u8]) -> Result<Lexed, AllocErro
     }
 }
 
+/// A bracket, another mark, or what begins no token.
 fn read_mark(rest: &[u8]) -> Lexed
     requires some { 0 < length rest.now }
     requires no_part { part_begins (slice_index rest.now 0) ≡ false }
@@ -114,6 +116,7 @@ fn is_at_becomes(rest: &[u8]) -> bool
     rest.len() > 1 && rest[0] == b':' && rest[1] == b'='
 }
 
+/// How many bytes the word at the front has.
 fn word_len(rest: &[u8]) -> usize
     requires { 0 < length rest.now }
     ensures len { result ≡ 1 + word_more (drop 1 rest.now) }
@@ -126,6 +129,7 @@ fn word_len(rest: &[u8]) -> usize
     at
 }
 
+/// Whether a word goes on with the byte: a dot belongs to it only where a part stands after the dot.
 fn goes_on_word(rest: &[u8], at: usize) -> bool
     requires { at < length rest.now }
     ensures { result ≡ goes_on (drop at rest.now) }
@@ -142,6 +146,7 @@ fn is_at_part(rest: &[u8], at: usize) -> bool
     }
 }
 
+/// How many word characters stand at the front.
 fn part_len(bytes: &[u8]) -> usize
     ensures len { result ≡ prefix_len word_char bytes.now }
     ensures within { result ≤ length bytes.now }
@@ -197,7 +202,7 @@ fn index_len(rest: &[u8]) -> usize
     ensures short { result ≤ 18 }
     ensures within { 0 < result → 1 + result ≤ length rest.now }
 {
-    if rest.get(0).copied() != Some(b'%') || rest.get(1).copied() == Some(b'0') {
+    if rest.first().copied() != Some(b'%') || rest.get(1).copied() == Some(b'0') {
         return 0;
     }
     let mut len = 0;
@@ -207,6 +212,7 @@ fn index_len(rest: &[u8]) -> usize
     len
 }
 
+/// The value of at most eighteen digits.
 fn number(digits: &[u8]) -> u64
     requires short { length digits.now ≤ 18 }
     requires digits { list_all digit digits.now ≡ true }

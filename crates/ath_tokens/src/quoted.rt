@@ -11,7 +11,7 @@ use sqlite_items::Items;
 use std::alloc::{AllocError, Global};
 
 /// How a string goes on after its opening quote.
-#[derive(Debug, Drop)]
+#[derive(Drop)]
 pub(crate) enum Quoted {
     /// The closing quote stands after so many bytes, and these bytes are meant.
     Closed(usize, Items<u8>),
@@ -21,7 +21,7 @@ pub(crate) enum Quoted {
 }
 
 /// What stands at a backslash.
-#[derive(Clone, Copy, Debug)]
+#[derive(Clone, Copy)]
 enum Escape {
     Means { byte: u8, len: usize },
     Wrong { back: usize },

@@ -19,7 +19,12 @@ fn listing(alloc: Global, text: &[u8]) -> Result<String, Fail> {
                 lines.push_str(line.as_str())?;
             }
             Ok(None) => {
-                lines.push_str("end")?;
+                let again = tokens.next(alloc, &mut names);
+                lines.push_str(if matches!(again, Ok(None)) {
+                    "end"
+                } else {
+                    "?"
+                })?;
                 return Ok(lines);
             }
             Err(error) => {
@@ -141,6 +146,30 @@ fn tokens_and_faults(rt: HostRuntime) -> Result<(), Fail> {
     for (text, wanted) in rows {
         let got = listing(alloc, text)?;
         assert_eq!(rt; got.as_str(), wanted);
+    }
+    Ok(())
+}
+
+#[test]
+fn longest_names(rt: HostRuntime) -> Result<(), Fail> {
+    let alloc = rt.alloc();
+    let mut text = String::new(alloc);
+    for _ in 0..200 {
+        text.push('n')?;
+    }
+    let rows = [
+        (format!(in alloc; "{text}")?, true),
+        (format!(in alloc; "?{text}%12")?, true),
+        (format!(in alloc; "'{text}")?, true),
+        (format!(in alloc; "{text}n")?, false),
+        (format!(in alloc; "?{text}n%1")?, false),
+        (format!(in alloc; "'{text}n")?, false),
+        (format!(in alloc; "{text}.b")?, false),
+    ];
+    for (name, fits) in rows {
+        let line = format!(in alloc; "\n  {name} (")?;
+        let got = listing(alloc, line.as_bytes())?;
+        assert_eq!(rt; got.as_str() == "NameTooLong 2:3 true", !fits);
     }
     Ok(())
 }

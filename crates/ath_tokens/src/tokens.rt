@@ -133,7 +133,7 @@ impl Tokens {
 }
 
 /// A token, its place, its first byte, and the mark of its end.
-#[derive(Debug, Drop)]
+#[derive(Drop)]
 pub(crate) struct Step {
     token: Token,
     pos: Pos,

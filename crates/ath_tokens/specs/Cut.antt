@@ -73,12 +73,17 @@ abbrev pub next_of : List ℕ → ℕ → Cut
 next_of text from =
     let rest = drop from text in
     let gap = gap_len false rest in
-    if is_utf8 (take gap rest) then cut_at (from + gap) (drop gap rest) else fault BadUtf8 (from + utf8_valid_len (take gap rest))
+    if is_utf8 (take gap rest) then cut_at (from + gap) (drop gap rest)
+    else fault BadUtf8 (from + utf8_valid_len (take gap rest))
 
 -- what comes from a byte on, one after another, as far as the end or the first fault: at most n
 abbrev pub cuts : ℕ → List ℕ → ℕ → List Cut
 cuts zero text from = []
-cuts (suc n) text from = elim (next_of text from) [ found l start end ↦ found l start end ∷ cuts n text end | ended ↦ ended ∷ [] | fault kind at ↦ fault kind at ∷ [] ]
+cuts (suc n) text from = elim (next_of text from) [
+  | found l start end ↦ found l start end ∷ cuts n text end
+  | ended ↦ ended ∷ []
+  | fault kind at ↦ fault kind at ∷ []
+]
 
 -- the whole cut of a text, which has no more tokens than bytes
 abbrev pub cuts_of : List ℕ → List Cut

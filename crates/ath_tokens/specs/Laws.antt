@@ -15,11 +15,15 @@ pub record IsLongest (text : List ℕ) (from : ℕ) (token : Lexeme) (start end 
   pub some : start < end
   pub within : end ≤ length text
   pub spelled : spells (take (end - start) (drop start text)) ≡ Some token
-  pub longest : (n : ℕ) → end - start < n → n ≤ length (drop start text) → spells (take n (drop start text)) ≡ None
+  pub longest
+      : (n : ℕ) → end - start < n → n ≤ length (drop start text) → spells (take n (drop start text)) ≡ None
   pub short : name_len token ≤ 200
 
 abbrev pub FoundIsLongest : Type 0
-FoundIsLongest = (text : List ℕ) (from : ℕ) (token : Lexeme) (start end : ℕ) → from ≤ length text → next_of text from ≡ found token start end → IsLongest text from token start end
+FoundIsLongest =
+    (text : List ℕ) (from : ℕ) (token : Lexeme) (start end : ℕ)
+    → from ≤ length text → next_of text from ≡ found token start end → IsLongest text from token start end
 
 abbrev pub EndedIsEnd : Type 0
-EndedIsEnd = (text : List ℕ) (from : ℕ) → from ≤ length text → next_of text from ≡ ended → IsGap text from (length text)
+EndedIsEnd =
+    (text : List ℕ) (from : ℕ) → from ≤ length text → next_of text from ≡ ended → IsGap text from (length text)

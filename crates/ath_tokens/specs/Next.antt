@@ -31,19 +31,35 @@ token_of names becomes = Some Becomes
 
 -- an error and its cause: want of memory, or the fault that the text shows next
 abbrev pub Refuses : Cutting → LexError → Type 0
-Refuses c e = (e.kind ≡ Memory) ⊎ ((n : ℕ) × (next_of c.text c.at ≡ fault e.kind n) × (e.pos ≡ place_of c.file c.text n))
+Refuses c e =
+    (e.kind ≡ Memory)
+    ⊎ ((n : ℕ) × (next_of c.text c.at ≡ fault e.kind n) × (e.pos ≡ place_of c.file c.text n))
 
 -- the error that is given again
 abbrev pub RefusesAgain : Cutting → Option LexError → LexError → Type 0
 RefusesAgain c None e = Refuses c e
 RefusesAgain c (Some r) e = e ≡ r
 
--- what `next` answers, with the names before and after, and what the cutting has come to then
-abbrev pub Gives : Cutting → List (List ℕ) → Result (Option (Token × Pos × ℕ × ℕ)) LexError → Cutting → List (List ℕ) → Type 0
-Gives old names (Ok None) new names' = (old.refused ≡ None) × (next_of old.text old.at ≡ ended) × (new ≡ record old { at = length old.text }) × (names' ≡ names)
+-- a token with its names after it, and the range of its text, as the text has it next
+abbrev pub Finds : Cutting → List (List ℕ) → Token → ℕ → ℕ → List (List ℕ) → Type 0
+Finds c names token start end names' =
+    (l : Lexeme)
+    × (next_of c.text c.at ≡ found l start end)
+    × (names' ≡ names_with names l)
+    × (token_of names' l ≡ Some token)
+
+-- what `next` answers, what the cutting has come to then, and the names after it
+abbrev pub Gives
+    : Cutting → List (List ℕ) → Result (Option (Token × Pos × ℕ × ℕ)) LexError → Cutting → List (List ℕ) → Type 0
+Gives old names (Ok None) new names' =
+    (old.refused ≡ None)
+    × (next_of old.text old.at ≡ ended)
+    × (new ≡ record old { at = length old.text })
+    × (names' ≡ names)
 Gives old names (Ok (Some t)) new names' =
     (old.refused ≡ None)
-    × ((l : Lexeme) × (next_of old.text old.at ≡ found l t.2 t.3) × (names' ≡ names_with names l) × (token_of names' l ≡ Some t.0))
+    × Finds old names t.0 t.2 t.3 names'
     × (t.1 ≡ place_of old.file old.text t.2)
     × (new ≡ record old { at = t.3 })
-Gives old names (Err e) new names' = RefusesAgain old old.refused e × (new ≡ record old { refused = Some e }) × (names' ≡ names)
+Gives old names (Err e) new names' =
+    RefusesAgain old old.refused e × (new ≡ record old { refused = Some e }) × (names' ≡ names)

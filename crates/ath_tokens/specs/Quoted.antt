@@ -45,4 +45,8 @@ after n means unclosed = unclosed
 
 abbrev pub quoted : Inside → List ℕ → Quoted
 quoted s [] = unclosed
-quoted s (b ∷ bs) = elim (turn s b) [ goes_on t means ↦ after 1 means (quoted t bs) | closes ↦ closed 0 [] | breaks back ↦ wrong back 0 ]
+quoted s (b ∷ bs) = elim (turn s b) [
+  | goes_on t means ↦ after 1 means (quoted t bs)
+  | closes ↦ closed 0 []
+  | breaks back ↦ wrong back 0
+]

@@ -1,8 +1,9 @@
 -- What the reading of one token answers, for the contracts of its steps.
-use Rattle.std.specs.Prelude.{◌≡◌, ℕ, ◌+◌, ◌<◌, ◌≤◌, min, Bool, false, not, ◌&&◌, ◌||◌, ◌==◌, List, [], ◌∷◌, length, take, drop, Option, Some, None, Result, Ok, Err, ◌⊎◌, if◌then◌else◌}
+use Rattle.std.specs.Prelude.{◌≡◌, ℕ, ◌+◌, ◌<◌, ◌≤◌, min, Bool, true, false, not, ◌&&◌, ◌||◌, ◌==◌, List, [], ◌∷◌, length, take, drop, Option, Some, None, Result, Ok, Err, ◌⊎◌, if◌then◌else◌}
 use Rattle.std.specs.Char.{is_ascii_digit}
 use Rattle.std.specs.List.{prefix_len}
-use Rattle.std.specs.Str.{IsAscii}
+use Rattle.std.specs.Str.{IsAscii, is_utf8}
+use Rattle.std.specs.Str.Lossy.{utf8_valid_len}
 use Rattle.ath_sorts.specs.declared.sorts.Sym.{Sym}
 use Rattle.ath_names.specs.Names.{number_of, interned}
 use Rattle.ath_tokens.specs.declared.lexeme.Lexed.{Lexed}
@@ -18,6 +19,12 @@ use Rattle.ath_tokens.specs.Bytes.{is_word_char, is_at_part}
 use Rattle.ath_tokens.specs.Spelling.{Lexeme, word, var, sort_var, str, punct, becomes}
 use Rattle.ath_tokens.specs.Cut.{longest, Cut, found, ended, fault, fault_of, cut_at, next_of, place_of}
 use Rattle.ath_tokens.specs.Next.{names_with, token_of}
+
+-- the first byte at which a text isn't UTF-8
+abbrev pub StopsBeingUtf8 : List ℕ → Option ℕ → Type 0
+StopsBeingUtf8 bytes None = is_utf8 bytes ≡ true
+StopsBeingUtf8 bytes (Some at) =
+    (is_utf8 bytes ≡ false) × (at ≡ utf8_valid_len bytes) × (at < length bytes)
 
 -- a word character, or a dot before a part
 abbrev pub goes_on : List ℕ → Bool

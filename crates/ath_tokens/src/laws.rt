@@ -2,7 +2,8 @@
 
 ghost use Rattle.ath_tokens.specs.Laws.{FoundIsLongest, EndedIsEnd};
 
-/// A token's text spells it by the table of tokens, no longer text from its start spells any, and only blanks and comments stand before it.
+/// A token's text spells it by the table of tokens, no longer text from its start spells any, and
+/// only blanks and comments stand before it.
 pub fn found_is_longest()
     ensures { FoundIsLongest }
 {}

@@ -9,7 +9,7 @@ ghost use Rattle.ath_tokens.specs.Bytes.{is_word_char as word_char, begins_part 
 ghost use Rattle.ath_tokens.specs.Spelling.{number as value_of};
 ghost use Rattle.ath_tokens.specs.Cut.{gap_len as gap, is_at_character as at_character};
 ghost use Rattle.ath_tokens.specs.Strings.{string_lexed, fault_at, IsWithin};
-ghost use Rattle.ath_tokens.specs.Scan.{goes_on, word_more, index_digits, Faults, Lexes};
+ghost use Rattle.ath_tokens.specs.Scan.{StopsBeingUtf8, goes_on, word_more, index_digits, Faults, Lexes};
 
 use crate::bytes::{begins_character, begins_part, is_blank, is_punct, is_word_char};
 use crate::quoted::{Quoted, read_quoted};
@@ -64,7 +64,7 @@ pub(crate) fn gap_len(rest: &[u8]) -> usize
 
 /// The first byte at which a text isn't UTF-8.
 pub(crate) fn utf8_fault(bytes: &[u8]) -> Option<usize>
-    ensures { MatchOption result (is_utf8 bytes.now ≡ true) (λ at. (is_utf8 bytes.now ≡ false) × (at ≡ utf8_valid_len bytes.now) × (at < length bytes.now)) }
+    ensures { StopsBeingUtf8 bytes.now result }
 {
     match str::from_utf8(bytes) {
         Ok(_) => None,
@@ -129,7 +129,7 @@ fn word_len(rest: &[u8]) -> usize
     at
 }
 
-/// Whether a word goes on with the byte: a dot belongs to it only where a part stands after the dot.
+/// Whether a word goes on with the byte. A dot belongs to it only where a part stands after the dot.
 fn goes_on_word(rest: &[u8], at: usize) -> bool
     requires { at < length rest.now }
     ensures { result ≡ goes_on (drop at rest.now) }

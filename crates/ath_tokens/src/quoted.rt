@@ -15,7 +15,7 @@ use std::alloc::{AllocError, Global};
 pub(crate) enum Quoted {
     /// The closing quote stands after so many bytes, and these bytes are meant.
     Closed(usize, Items<u8>),
-    /// The escape whose backslash stands `back` bytes before the byte `at` is none, as that byte shows.
+    /// The byte `at` shows that the escape whose backslash stands `back` bytes before it is none.
     Wrong { back: usize, at: usize },
     Unclosed,
 }

@@ -57,8 +57,8 @@ pub struct LexError {
 
 /// The tokens of a text, one after another.
 ///
-/// Contracts see the text, the number of its file, the byte from which the next token is looked for, and the error that is
-/// given from then on.
+/// Contracts see the text, the number of its file, the byte from which the next token is looked
+/// for, and the error that is given from then on.
 #[derive(Debug, Drop)]
 pub struct Tokens {
     text: Vec<u8>,
@@ -73,7 +73,12 @@ impl Model for Tokens {
 
     ghost Value = { Cutting };
 
-    ghost view = { λ t. record { text = t.text.items; file = t.file; at = t.mark.at; refused = t.refused } };
+    ghost view = { λ t. record {
+      text = t.text.items;
+      file = t.file;
+      at = t.mark.at;
+      refused = t.refused;
+    } };
 
     ghost invariant = { λ t. IsMark t.text.items t.mark };
 }
@@ -97,7 +102,8 @@ impl Tokens {
         }
     }
 
-    /// The next token, its place, and the range of its bytes. After an error the same error is given again.
+    /// The next token, its place, and the range of its bytes. After an error the same error is
+    /// given again.
     pub fn next(
         &mut self,
         alloc: Global,
@@ -205,7 +211,7 @@ fn error_at(text: &[u8], file: usize, from: Mark, at: usize, kind: LexKind) -> L
     LexError { kind, pos }
 }
 
-/// The token at the front with its names among the names, and its length; or a fault, and how far on it is.
+/// The token at the front with its name's number, and its length; or a fault, and how far on it is.
 fn read_token(
     alloc: Global,
     rest: &[u8],

@@ -4,3 +4,4 @@ pub mod RunLaws
 pub mod Sound
 mod Reports
 mod WholeLines
+mod Rows

@@ -1,6 +1,7 @@
 -- A reader of one token at a time: what it waits for, and a stack of what waits behind that.
 use Rattle.std.specs.Prelude.{ℕ, suc, ◌-◌, List, [], ◌∷◌, Bool, true, false, Option, Some, None}
 use Rattle.ath_syntax.specs.Tree.{DirectiveTree}
+use Rattle.ath_grammar.specs.Kinds.{allowed}
 use Rattle.ath_grammar.specs.Tokens.{Placed}
 use Rattle.ath_grammar.specs.Rules.{Kind, a_directive, Value, directive_part, Rule, done, refuse, token, peek, goto, push, check, deeper, shallower}
 use Rattle.ath_grammar.specs.DirectiveRules.{first}
@@ -107,3 +108,18 @@ level_of (lingers l f q ks) = l
 
 abbrev pub beginning : Config
 beginning = waits 0 (first directive_part) bottom
+
+-- The state after more tokens, where there is one; the Bool says whether kinds are told apart.
+abbrev pub granted : Bool → Config → Option Config
+granted true st = Some st
+granted false st = None
+
+abbrev pub advance : Bool → Outcome → Option Config
+advance a no = None
+advance a (on b st) = granted (allowed a b) st
+advance a (over b d) = None
+
+abbrev pub read_on : Bool → Option Config → List Placed → Option Config
+read_on a None ts = None
+read_on a (Some st) [] = Some st
+read_on a (Some st) (t ∷ ts) = read_on a (advance a (step st t)) ts

@@ -1,4 +1,7 @@
+pub mod Expects
 pub mod Laws
 pub mod Meaning
+pub mod PhraseSound
 pub mod Ready
+pub mod SmallParts
 pub mod Steps

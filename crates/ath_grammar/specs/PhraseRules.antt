@@ -1,5 +1,5 @@
 -- How a reader goes on in phrases.
-use Rattle.std.specs.Prelude.{ℕ, List, [], ◌∷◌, Bool, true, false, Option, Some, None}
+use Rattle.std.specs.Prelude.{ℕ, List, [], ◌∷◌, Bool, true, false, Option, Some, None, if◌then◌else◌}
 use Rattle.ath_sorts.specs.declared.sorts.Sym.{Sym}
 use Rattle.ath_syntax.specs.declared.place.Pos.{Pos}
 use Rattle.ath_syntax.specs.Tree.{Pattern, Binder, Phrase, name_at, variable_at, string_at, list_at, ascribe_at, apply_at, call_at, check_at, try_at, seq_at, pick_any_at, pick_witness_at, Phrases, no_phrases, more_phrases, Bindings, no_bindings, more_bindings, Clauses, no_clauses, more_clauses, Branches, no_branches, more_branches, no_else, else_phrase, is_deduction}
@@ -44,7 +44,7 @@ params_open c p _ = refuse
 
 -- what a name is bound to
 abbrev pub bound_rule : LetWord → Want → Rule a_phrase
-bound_rule k w = (λ (b : Bool). elim b as (λ _. Rule a_phrase) [ true ↦ goto closure_part | false ↦ goto (phrase_part (bound w)) ]) (is_rec k)
+bound_rule k w = if is_rec k then goto closure_part else goto (phrase_part (bound w))
 
 abbrev pub row_close : LetWord → Pos → Want → Bindings → Sym → Phrase → Rule a_phrase
 row_close k p w bs n x = expect close_mark (shallower (goto (row_pairs k p (after_row k w x) (more_bindings n x bs))))
@@ -153,7 +153,7 @@ after_sorted p bs _ = pick_body p bs
 abbrev pub after_name : Pos → List Binder → Pos → Sym → Placed → Rule a_phrase
 after_name p bs q n (at o (Word Plain m)) = goto (binders p ((n, None) ∷ bs))
 after_name p bs q n (at o Colon) = token (λ _. push (λ s. peek (after_sorted p ((n, Some s) ∷ bs)) (pick_body p ((n, Some s) ∷ bs))) (goto sort_part))
-after_name p bs q n (at o t) = (λ (b : Bool). elim b as (λ _. Rule a_phrase) [ true ↦ pick_body p ((n, None) ∷ bs) | false ↦ pick_last p bs q n ]) (begins_phrase t)
+after_name p bs q n (at o t) = if begins_phrase t then pick_body p ((n, None) ∷ bs) else pick_last p bs q n
 
 abbrev pub binders_rule : Pos → List Binder → Placed → Rule a_phrase
 binders_rule p bs (at q (Word Plain n)) = peek (after_name p bs q n) (pick_last p bs q n)
@@ -196,7 +196,7 @@ phrase_rule w _ = refuse
 
 -- whether a phrase of this kind may have parts, where this is wanted
 abbrev pub heads : Want → Phrase → Bool
-heads w f = (λ (b : Bool). elim b as (λ _. Bool) [ true ↦ same_kind false (is_deduction f) | false ↦ false ]) (fits w false)
+heads w f = if fits w false then same_kind false (is_deduction f) else false
 
 -- the parts of an application behind its head, from this token on
 abbrev pub apply_rule : Pos → Phrase → Placed → Rule a_phrase

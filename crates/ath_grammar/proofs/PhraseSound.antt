@@ -339,3 +339,201 @@ module _ (a : Bool) where
   binders_sound p bs [] v r h = absurd h
   binders_sound p bs (at q (Word Plain n) ∷ ts) v r h = after_name_sound p bs q n ts v r h
   binders_sound p bs (at q t ∷ ts) v r h = absurd h
+
+  -- forms with a sentence
+  hypothesis_none : (h : HypothesisWord) (p : Pos) {ts mid m r : List Placed} {e d v : Phrase} → SpellsPhrase a (only false) ts e mid → SpellsPhrase a (only true) mid d m → Whole (hypothesis_at h p None e d) m v r → SpellsForm a (only true) p (Hypothesis h) ts v r
+  hypothesis_none h p he hd k = hypothesis_case h (allowed_true a) he hd k
+
+  becomes_sound : (h : HypothesisWord) (p q : Pos) (n : Sym) (ts : List Placed) (v : Phrase) (r : List Placed) → Means a (peek (hypothesis_becomes h p q n) (hypothesis_body h p None (name_at q n))) ts v r → SpellsForm a (only true) p (Hypothesis h) (at q (Word Plain n) ∷ ts) v r
+  becomes_sound h p q n [] v r (d, m, hd, k) = hypothesis_none h p (name (allowed_true a)) hd k
+  becomes_sound h p q n (at o Becomes ∷ ts) v r (e, mid, he, (d, m, hd, k)) = named_case h (allowed_true a) he hd k
+  becomes_sound h p q n (at o t ∷ ts) v r (d, m, hd, k) = hypothesis_none h p (name (allowed_true a)) hd k
+
+  pub hypothesis_sound : (h : HypothesisWord) (p : Pos) (ts : List Placed) (v : Phrase) (r : List Placed) → Means a (token (hypothesis_rule h p)) ts v r → SpellsForm a (only true) p (Hypothesis h) ts v r
+  hypothesis_sound h p [] v r m = absurd m
+  hypothesis_sound h p (at q (Word Plain n) ∷ ts) v r m = becomes_sound h p q n ts v r m
+  hypothesis_sound h p (at q t ∷ ts) v r (e, mid, he, (d, m, hd, k)) = hypothesis_none h p (phrase_sound (only false) (at q t ∷ ts) e mid he) hd k
+
+  -- `try` in its own parentheses
+  try_parts_case : {p o : Pos} {w : Want} {t : Lexeme} {ts mid m r : List Placed} {x v : Phrase} {xs : Phrases} → is_brace t ≡ false → SpellsPhrase a w (at o t ∷ ts) x mid → Image (put_phrases (more_phrases x no_phrases)) (λ ys. SpellsParts a (only (is_deduction x)) round mid ys m) xs → Whole (try_at p xs) m v r → TryOn a p w (at o t ∷ ts) v r
+  try_parts_case e h (image k) wholly = try_on_parts e h k
+
+  try_form_case : {p : Pos} {w : Want} {ts mid us r : List Placed} {x v : Phrase} → SpellsForm a w p Try ts x mid → Marked close_mark mid us → Whole x us v r → TryOn a p w ts v r
+  try_form_case h marked_close wholly = try_on_form h
+
+  pub try_inside_sound : (p : Pos) (w : Want) (ts : List Placed) (v : Phrase) (r : List Placed) → Means a (token (try_inside_rule p w)) ts v r → TryOn a p w ts v r
+  try_inside_sound p w [] v r h = absurd h
+  try_inside_sound p w (at o OpenBrace ∷ ts) v r (y, m, (x, mid, hx, (xs, n, k, d)), h) = let (us, c, e) = expect_sound {k = a_phrase} a (shallower (done y)) v r close_mark m h in try_form_case (try_case hx k d) c e
+  try_inside_sound p w (at o t ∷ ts) v r (x, mid, hx, (xs, m, k, d)) = try_parts_case refl (phrase_sound w (at o t ∷ ts) x mid hx) k d
+
+  try_on_phrase : {p q : Pos} {w : Want} {ts r : List Placed} {v : Phrase} → TryOn a p w ts v r → SpellsPhrase a w (at p Open ∷ at q (Form Try) ∷ ts) v r
+  try_on_phrase (try_on_parts e h k) = try_parts e h k
+  try_on_phrase (try_on_form h) = paired h
+
+  -- `lambda` and `method` where a closure has to stand
+  closure_pair_case : {p q : Pos} {c : ClosureWord} {ts mid us r : List Placed} {x v : Phrase} → SpellsForm a any p (Closure c) ts x mid → Marked close_mark mid us → Whole x us v r → SpellsClosure a (at p Open ∷ at q (Form (Closure c)) ∷ ts) v r
+  closure_pair_case h marked_close wholly = closure_paired h
+
+  closure_parens_case : {p q : Pos} {ts mid us r : List Placed} {x v : Phrase} → SpellsClosure a (at q Open ∷ ts) x mid → Marked close_mark mid us → Whole x us v r → SpellsClosure a (at p Open ∷ at q Open ∷ ts) v r
+  closure_parens_case h marked_close wholly = closure_parens h
+
+  closure_bare_case : {p : Pos} {c : ClosureWord} {ts mid r : List Placed} {x v : Phrase} → SpellsForm a any p (Closure c) ts x mid → Whole x mid v r → SpellsClosure a (at p (Form (Closure c)) ∷ ts) v r
+  closure_bare_case h wholly = closure_bare h
+
+  pub closure_inside_sound : (p : Pos) (ts : List Placed) (v : Phrase) (r : List Placed) → Means a (token (closure_inside_rule p)) ts v r → SpellsClosure a (at p Open ∷ ts) v r
+  closure_inside_sound p [] v r h = absurd h
+  closure_inside_sound p (at q (Form (Closure c)) ∷ ts) v r (x, mid, hx, h) = let (us, m, d) = expect_sound {k = a_phrase} a (shallower (done x)) v r close_mark mid h in closure_pair_case (form_sound any p (Closure c) ts x mid hx) m d
+  closure_inside_sound p (at q Open ∷ ts) v r (x, mid, hx, h) = let (us, m, d) = expect_sound {k = a_phrase} a (shallower (done x)) v r close_mark mid h in closure_parens_case hx m d
+  closure_inside_sound p (at q t ∷ ts) v r h = absurd h
+
+  pub closure_sound : (ts : List Placed) (v : Phrase) (r : List Placed) → Means a (token closure_rule) ts v r → SpellsClosure a ts v r
+  closure_sound [] v r h = absurd h
+  closure_sound (at p (Form (Closure c)) ∷ ts) v r (x, mid, hx, d) = closure_bare_case (form_sound any p (Closure c) ts x mid hx) d
+  closure_sound (at p Open ∷ ts) v r h = h
+  closure_sound (at p t ∷ ts) v r h = absurd h
+
+  -- clauses of `check` in parentheses
+  branch_step : {p : Pos} (later : Bool) {w : Want} (bs : Branches) (o : Pos) {ts mid m us r : List Placed} {e x v : Phrase} → SpellsPhrase a (only false) ts e mid → SpellsPhrase a w mid x m → Marked close_mark m us → BranchPairsOn a p (only (is_deduction x)) (more_branches e x bs) us v r → BranchInsideOn a p later w bs ts v r
+  branch_step later bs o h k marked_close (branch_pairs_on n) = branch_inside_on {o = o} (branch_pairs_more h k n)
+
+  else_step : {p : Pos} {w : Want} (bs : Branches) (o : Pos) {l : Pos} {ts mid us ms r : List Placed} {x v : Phrase} → SpellsPhrase a w ts x mid → Marked close_mark mid us → Marked close_mark us ms → Whole (check_done p bs x) ms v r → BranchInsideOn a p true w bs (at l Else ∷ ts) v r
+  else_step bs o h marked_close marked_close wholly = branch_inside_on {o = o} (branch_pairs_else h)
+
+  branch_else_sound : (p : Pos) (later : Bool) (w : Want) (bs : Branches) (l : Pos) (ts : List Placed) (v : Phrase) (r : List Placed) → (later ≡ true) × Means a (push (else_close p bs) (goto (phrase_part w))) ts v r → BranchInsideOn a p later w bs (at l Else ∷ ts) v r
+  branch_else_sound p true w bs l ts v r (e, (x, mid, hx, h)) =
+      let (us, m, k) = expect_sound {k = a_phrase} a (shallower (expect close_mark (shallower (done (check_done p bs x))))) v r close_mark mid h in
+      let (ms, n, d) = expect_sound {k = a_phrase} a (shallower (done (check_done p bs x))) v r close_mark us k in else_step bs l hx m n d
+  branch_else_sound p false w bs l ts v r (e, h) = cc
+
+  pub branch_inside_sound : (p : Pos) (later : Bool) (w : Want) (bs : Branches) (ts : List Placed) (v : Phrase) (r : List Placed) → Means a (token (branch_inside_rule p later w bs)) ts v r → BranchInsideOn a p later w bs ts v r
+  branch_inside_sound p later w bs [] v r h = absurd h
+  branch_inside_sound p later w bs (at l Else ∷ ts) v r h = branch_else_sound p later w bs l ts v r (when_sound a (push (else_close p bs) (goto (phrase_part w))) v r later ts h)
+  branch_inside_sound p later w bs (at l t ∷ ts) v r (e, mid, he, (x, m, hx, h)) =
+      let (us, n, k) = expect_sound a (shallower (goto (branch_pairs p (only (is_deduction x)) (more_branches e x bs)))) v r close_mark m h in
+        branch_step later bs l (phrase_sound (only false) (at l t ∷ ts) e mid he) hx n k
+
+  branch_again : {p : Pos} {w : Want} (bs : Branches) {o : Pos} {ts r : List Placed} {v : Phrase} → BranchInsideOn a p true w bs ts v r → BranchPairsOn a p w bs (at o Open ∷ ts) v r
+  branch_again bs {o} (branch_inside_on h) = branch_pairs_on (branch_open o h)
+    where
+      branch_open : {q : Pos} {w : Want} {ts r : List Placed} {cs : Branches} {l : Otherwise} {later : Bool} (o : Pos) → SpellsBranchPairs a later w (at q Open ∷ ts) cs l r → SpellsBranchPairs a later w (at o Open ∷ ts) cs l r
+      branch_open o (branch_pairs_else h) = branch_pairs_else h
+      branch_open o (branch_pairs_more h k n) = branch_pairs_more h k n
+
+  branch_end : {p : Pos} {w : Want} (bs : Branches) {z : Pos} {ts r : List Placed} {v : Phrase} → Whole (check_at p (put_branches bs no_branches) no_else) ts v r → BranchPairsOn a p w bs (at z Close ∷ ts) v r
+  branch_end bs wholly = branch_pairs_on branch_pairs_end
+
+  pub branch_pairs_sound : (p : Pos) (w : Want) (bs : Branches) (ts : List Placed) (v : Phrase) (r : List Placed) → Means a (token (branch_pairs_rule p w bs)) ts v r → BranchPairsOn a p w bs ts v r
+  branch_pairs_sound p w bs [] v r h = absurd h
+  branch_pairs_sound p w bs (at o Open ∷ ts) v r h = branch_again bs h
+  branch_pairs_sound p w bs (at o Close ∷ ts) v r h = branch_end bs h
+  branch_pairs_sound p w bs (at o t ∷ ts) v r h = absurd h
+
+  -- clauses of `check` in braces
+  branch_more_step : {p : Pos} (later : Bool) {w : Want} (bs : Branches) {z q : Pos} {ts mid us r : List Placed} {e x v : Phrase} → SpellsPhrase a (only false) ts e (at q Arrow ∷ mid) → SpellsPhrase a w mid x (at z Bar ∷ us) → BranchRowsOn a p true (only (is_deduction x)) (more_branches e x bs) us v r → BranchRowsOn a p later w bs ts v r
+  branch_more_step later bs h k (branch_rows_on n) = branch_rows_on (branches_more h k n)
+
+  branch_last_step : {p : Pos} (later : Bool) {w : Want} (bs : Branches) {z q : Pos} {ts mid us r : List Placed} {e x v : Phrase} → SpellsPhrase a (only false) ts e (at q Arrow ∷ mid) → SpellsPhrase a w mid x (at z CloseBrace ∷ us) → Whole (check_at p (put_branches (more_branches e x bs) no_branches) no_else) us v r → BranchRowsOn a p later w bs ts v r
+  branch_last_step later bs h k wholly = branch_rows_on (branches_last h k)
+
+  branch_more_sound : (p : Pos) (later : Bool) (w : Want) (bs : Branches) (q : Pos) (ts mid us : List Placed) (e x v : Phrase) (r : List Placed) → SpellsPhrase a (only false) ts e (at q Arrow ∷ mid) → SpellsPhrase a w mid x us → Means a (token (branch_more p (only (is_deduction x)) (more_branches e x bs))) us v r → BranchRowsOn a p later w bs ts v r
+  branch_more_sound p later w bs q ts mid [] e x v r he hx h = absurd h
+  branch_more_sound p later w bs q ts mid (at z Bar ∷ us) e x v r he hx h = branch_more_step later bs he hx h
+  branch_more_sound p later w bs q ts mid (at z CloseBrace ∷ us) e x v r he hx h = branch_last_step later bs he hx h
+  branch_more_sound p later w bs q ts mid (at z t ∷ us) e x v r he hx h = absurd h
+
+  branch_arrow : (p : Pos) (later : Bool) (w : Want) (bs : Branches) (ts mid us m : List Placed) (e x v : Phrase) (r : List Placed) → SpellsPhrase a (only false) ts e mid → Marked arrow_mark mid us → SpellsPhrase a w us x m → Means a (token (branch_more p (only (is_deduction x)) (more_branches e x bs))) m v r → BranchRowsOn a p later w bs ts v r
+  branch_arrow p later w bs ts mid us m e x v r he (marked_arrow {p = q}) hx h = branch_more_sound p later w bs q ts us m e x v r he hx h
+
+  else_rows_step : {p : Pos} {w : Want} (bs : Branches) {l : Pos} {ts us mid ms r : List Placed} {x v : Phrase} → Marked arrow_mark ts us → SpellsPhrase a w us x mid → Marked close_brace_mark mid ms → Whole (check_done p bs x) ms v r → BranchRowsOn a p true w bs (at l Else ∷ ts) v r
+  else_rows_step bs marked_arrow h marked_close_brace wholly = branch_rows_on (branches_else h)
+
+  abbrev else_rest : Pos → Want → Branches → Rule a_phrase
+  else_rest p w bs = push (λ x. expect close_brace_mark (shallower (done (check_done p bs x)))) (goto (phrase_part w))
+
+  else_rows_sound : (p : Pos) (later : Bool) (w : Want) (bs : Branches) (l : Pos) (ts : List Placed) (v : Phrase) (r : List Placed) → (later ≡ true) × Means a (expect arrow_mark (else_rest p w bs)) ts v r → BranchRowsOn a p later w bs (at l Else ∷ ts) v r
+  else_rows_sound p true w bs l ts v r (e, h) =
+      let (us, m, (x, mid, hx, k)) = expect_sound a (else_rest p w bs) v r arrow_mark ts h in
+      let (ms, n, d) = expect_sound {k = a_phrase} a (shallower (done (check_done p bs x))) v r close_brace_mark mid k in else_rows_step bs m hx n d
+  else_rows_sound p false w bs l ts v r (e, h) = cc
+
+  pub branch_rows_sound : (p : Pos) (later : Bool) (w : Want) (bs : Branches) (ts : List Placed) (v : Phrase) (r : List Placed) → Means a (token (branch_rows_rule p later w bs)) ts v r → BranchRowsOn a p later w bs ts v r
+  branch_rows_sound p later w bs [] v r h = absurd h
+  branch_rows_sound p later w bs (at l Else ∷ ts) v r h = else_rows_sound p later w bs l ts v r (when_sound a (expect arrow_mark (else_rest p w bs)) v r later ts h)
+  branch_rows_sound p later w bs (at l t ∷ ts) v r (e, mid, he, h) =
+      let (us, n, (x, m, hx, k)) = expect_sound a (push (λ x. token (branch_more p (only (is_deduction x)) (more_branches e x bs))) (goto (phrase_part w))) v r arrow_mark mid h in
+        branch_arrow p later w bs (at l t ∷ ts) mid us m e x v r (phrase_sound (only false) (at l t ∷ ts) e mid he) n hx k
+
+  -- phrases in parentheses
+  check_pairs_case : {w : Want} {p q o : Pos} {ts r : List Placed} {v : Phrase} → BranchInsideOn a p false w no_branches ts v r → SpellsPhrase a w (at p Open ∷ at q (Form Check) ∷ at o Open ∷ ts) v r
+  check_pairs_case (branch_inside_on (branch_pairs_more h k n)) = check_pairs (branch_pairs_more h k n)
+
+  check_inside_sound : (p : Pos) (w : Want) (q : Pos) (ts : List Placed) (v : Phrase) (r : List Placed) → Means a (token (check_inside p w)) ts v r → SpellsPhrase a w (at p Open ∷ at q (Form Check) ∷ ts) v r
+  check_inside_sound p w q [] v r h = absurd h
+  check_inside_sound p w q (at o OpenBrace ∷ ts) v r (x, mid, hx, h) = let (us, m, d) = expect_sound {k = a_phrase} a (shallower (done x)) v r close_mark mid h in own_case (check_case hx) m d
+  check_inside_sound p w q (at o Open ∷ ts) v r h = check_pairs_case h
+  check_inside_sound p w q (at o t ∷ ts) v r h = absurd h
+
+  pair_sound : (w : Want) (p q : Pos) (k : FormWord) (ts : List Placed) (v : Phrase) (r : List Placed) → Means a (push own_pair (form_rule w p k)) ts v r → SpellsPhrase a w (at p Open ∷ at q (Form k) ∷ ts) v r
+  pair_sound w p q k ts v r (x, mid, hx, h) = let (us, m, d) = expect_sound {k = a_phrase} a (shallower (done x)) v r close_mark mid h in own_case (form_sound w p k ts x mid hx) m d
+
+  paired_sound : (w : Want) (p q : Pos) (k : FormWord) (ts : List Placed) (v : Phrase) (r : List Placed) → Means a (paired_rule w p k) ts v r → SpellsPhrase a w (at p Open ∷ at q (Form k) ∷ ts) v r
+  paired_sound w p q (ClausesForm c) ts v r (e, (x, mid, hx, h)) = clauses_inside_sound c p w q x ts mid v r e hx h
+  paired_sound w p q Check ts v r h = check_inside_sound p w q ts v r h
+  paired_sound w p q Try ts v r h = try_on_phrase h
+  paired_sound w p q Begin ts v r (e, (x, mid, hx, (xs, m, k, d))) = seq_parts_case e hx k d
+  paired_sound w p q (Closure c) ts v r h = pair_sound w p q (Closure c) ts v r h
+  paired_sound w p q (LetForm k) ts v r h = pair_sound w p q (LetForm k) ts v r h
+  paired_sound w p q (Hypothesis x) ts v r h = pair_sound w p q (Hypothesis x) ts v r h
+  paired_sound w p q PickAny ts v r h = pair_sound w p q PickAny ts v r h
+  paired_sound w p q PickWitness ts v r h = pair_sound w p q PickWitness ts v r h
+
+  call_case : {w : Want} {p q : Pos} {ts mid m r : List Placed} {f v : Phrase} {xs : Phrases} → Fits a w true → SpellsPhrase a (only false) ts f mid → Image (put_phrases no_phrases) (λ ys. SpellsParts a any round mid ys m) xs → Whole (call_at p f xs) m v r → SpellsPhrase a w (at p Open ∷ at q Bang ∷ ts) v r
+  call_case e h (image k) wholly = call e h k
+
+  ascribe_case : {w : Want} {p q o : Pos} {t : Lexeme} {ts mid m us r : List Placed} {f v : Phrase} {s : SortText} → is_first_item t ≡ true → SpellsPhrase a w (at q t ∷ ts) f (at o Colon ∷ mid) → (Fits a w false) × IsExpression a (is_deduction f) → SpellsSort mid s m → Marked close_mark m us → Whole (ascribe_at p f s) us v r → SpellsPhrase a w (at p Open ∷ at q t ∷ ts) v r
+  ascribe_case e h (f, x) k marked_close wholly = ascribe e h f x k
+
+  apply_case : {w : Want} {p q : Pos} {t : Lexeme} {ts mid m us r : List Placed} {f x v : Phrase} {xs : Phrases} → is_first_item t ≡ true → SpellsPhrase a w (at q t ∷ ts) f mid → (Fits a w false) × IsExpression a (is_deduction f) → clashes (is_operator t) (starts is_operator mid) ≡ false → SpellsPhrase a (only false) mid x m → Image (put_phrases (more_phrases x no_phrases)) (λ ys. SpellsParts a (only false) round m ys us) xs → Whole (apply_at p f xs) us v r → SpellsPhrase a w (at p Open ∷ at q t ∷ ts) v r
+  apply_case e h (f, x) c hx (image k) wholly = apply e h f x c hx k
+
+  parens_case : {w : Want} {p q z : Pos} {t : Lexeme} {ts us r : List Placed} {f v : Phrase} → is_first_item t ≡ true → is_word t ≡ false → SpellsPhrase a w (at q t ∷ ts) f (at z Close ∷ us) → Whole f us v r → SpellsPhrase a w (at p Open ∷ at q t ∷ ts) v r
+  parens_case e n h wholly = parens e n h
+
+  none_case : {w : Want} {p q z : Pos} {c : WordClass} {n : Sym} {us r : List Placed} {v : Phrase} → is_first_item (Word c n) ≡ true → Fits a w false → Whole (apply_at p (name_at q n) no_phrases) us v r → SpellsPhrase a w (at p Open ∷ at q (Word c n) ∷ at z Close ∷ us) v r
+  none_case e f wholly = apply_none e f
+
+  -- behind a first item, where no bracket closes
+  apply_sound : (p : Pos) (w : Want) (q z : Pos) (t u : Lexeme) (f : Phrase) (ts us : List Placed) (v : Phrase) (r : List Placed) → is_first_item t ≡ true → SpellsPhrase a w (at q t ∷ ts) f (at z u ∷ us) → Means a (unless (clashes (is_operator t) (is_operator u)) (check (heads w f) (apply_rule p f (at z u)))) us v r → SpellsPhrase a w (at p Open ∷ at q t ∷ ts) v r
+  apply_sound p w q z t u f ts us v r e hf h =
+      let (c, (k, (x, m, hx, (xs, n, hs, d)))) = unless_sound a (check (heads w f) (apply_rule p f (at z u))) v r (clashes (is_operator t) (is_operator u)) us h in
+        apply_case e hf (if_allowed a (fits w false) (same_kind false (is_deduction f)) k) c (phrase_sound (only false) (at z u ∷ us) x m hx) hs d
+
+  ascribe_sound : (p : Pos) (w : Want) (q z : Pos) (t : Lexeme) (f : Phrase) (ts us : List Placed) (v : Phrase) (r : List Placed) → is_first_item t ≡ true → SpellsPhrase a w (at q t ∷ ts) f (at z Colon ∷ us) → Means {k = a_phrase} a (check (heads w f) (push (λ s. expect close_mark (shallower (done (ascribe_at p f s)))) (goto sort_part))) us v r → SpellsPhrase a w (at p Open ∷ at q t ∷ ts) v r
+  ascribe_sound p w q z t f ts us v r e hf (k, (s, m, hs, h)) =
+      let (ms, n, d) = expect_sound {k = a_phrase} a (shallower (done (ascribe_at p f s))) v r close_mark m h in
+        ascribe_case e hf (if_allowed a (fits w false) (same_kind false (is_deduction f)) k) hs n d
+
+  word_second : (p : Pos) (w : Want) (q : Pos) (c : WordClass) (n : Sym) (ts : List Placed) (v : Phrase) (r : List Placed) → is_first_item (Word c n) ≡ true → Fits a w false → Means a (token (second_rule p w true (is_operator (Word c n)) (name_at q n))) ts v r → SpellsPhrase a w (at p Open ∷ at q (Word c n) ∷ ts) v r
+  word_second p w q c n [] v r e f h = absurd h
+  word_second p w q c n (at z Close ∷ us) v r e f h = none_case e f h
+  word_second p w q c n (at z Colon ∷ us) v r e f h = ascribe_sound p w q z (Word c n) (name_at q n) (at z Colon ∷ us) us v r e (name f) h
+  word_second p w q c n (at z u ∷ us) v r e f h = apply_sound p w q z (Word c n) u (name_at q n) (at z u ∷ us) us v r e (name f) h
+
+  word_first : (p : Pos) (w : Want) (q : Pos) (c : WordClass) (n : Sym) (ts mid : List Placed) (f v : Phrase) (r : List Placed) → is_first_item (Word c n) ≡ true → Fits a w false → Whole (name_at q n) ts f mid → Means a (token (second_rule p w true (is_operator (Word c n)) f)) mid v r → SpellsPhrase a w (at p Open ∷ at q (Word c n) ∷ ts) v r
+  word_first p w q c n ts mid f v r e g wholly h = word_second p w q c n ts v r e g h
+
+  second_sound : (p : Pos) (w : Want) (q : Pos) (t : Lexeme) (ts mid : List Placed) (f v : Phrase) (r : List Placed) → is_first_item t ≡ true → is_word t ≡ false → SpellsPhrase a w (at q t ∷ ts) f mid → Means a (token (second_rule p w false (is_operator t) f)) mid v r → SpellsPhrase a w (at p Open ∷ at q t ∷ ts) v r
+  second_sound p w q t ts [] f v r e n hf h = absurd h
+  second_sound p w q t ts (at z Close ∷ us) f v r e n hf h = parens_case e n hf h
+  second_sound p w q t ts (at z Colon ∷ us) f v r e n hf h = ascribe_sound p w q z t f ts us v r e hf h
+  second_sound p w q t ts (at z u ∷ us) f v r e n hf h = apply_sound p w q z t u f ts us v r e hf h
+
+  abbrev item_rule : Pos → Want → Pos → Lexeme → Rule a_phrase
+  item_rule p w q t = push (λ f. token (second_rule p w (is_word t) (is_operator t) f)) (phrase_rule w (at q t))
+
+  pub inside_sound : (p : Pos) (w : Want) (ts : List Placed) (v : Phrase) (r : List Placed) → Means a (token (inside_rule p w)) ts v r → SpellsPhrase a w (at p Open ∷ ts) v r
+  inside_sound p w [] v r h = absurd h
+  inside_sound p w (at q Bang ∷ ts) v r (e, (f, mid, hf, (xs, m, k, d))) = call_case e hf k d
+  inside_sound p w (at q (Form k) ∷ ts) v r h = paired_sound w p q k ts v r h
+  inside_sound p w (at q (Word c n) ∷ ts) v r h = let (e, (f, mid, (g, hf), k)) = when_sound a (item_rule p w q (Word c n)) v r (is_first_item (Word c n)) ts h in word_first p w q c n ts mid f v r e g hf k
+  inside_sound p w (at q t ∷ ts) v r h = let (e, (f, mid, hf, k)) = when_sound a (item_rule p w q t) v r (is_first_item t) ts h in second_sound p w q t ts mid f v r e refl (phrase_sound w (at q t ∷ ts) f mid hf) k

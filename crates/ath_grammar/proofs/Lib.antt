@@ -1,3 +1,4 @@
+pub mod DirectiveParts
 pub mod Expects
 pub mod Laws
 pub mod Meaning

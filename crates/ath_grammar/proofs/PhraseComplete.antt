@@ -310,3 +310,62 @@ module _ (a : Bool) where
   branch_rows_complete p later w bs ts v r (branch_rows_on (branches_else {z = z} {x = x} h)) = (x, at z CloseBrace ∷ r, h, wholly)
   branch_rows_complete p later w bs ts v r (branch_rows_on (branches_last {e = q} {z = z} {mid = mid} {c = e} {x = x} he hx)) = row_condition p later w bs ts (at q Arrow ∷ mid) e v r he (x, at z CloseBrace ∷ r, hx, wholly)
   branch_rows_complete p later w bs ts v r (branch_rows_on (branches_more {e = q} {z = z} {mid = mid} {m = m} {c = e} {x = x} he hx k)) = row_condition p later w bs ts (at q Arrow ∷ mid) e v r he (x, at z Bar ∷ m, hx, branch_rows_on k)
+
+  -- phrases in parentheses
+  paired_complete : (w : Want) (p z : Pos) (k : FormWord) (ts : List Placed) (v : Phrase) (r : List Placed) → SpellsForm a w p k ts v (at z Close ∷ r) → Means a (paired_rule w p k) ts v r
+  paired_complete w p z (Closure c) ts v r h = (v, at z Close ∷ r, form_complete w p (Closure c) ts v (at z Close ∷ r) h, wholly)
+  paired_complete w p z (LetForm k) ts v r h = (v, at z Close ∷ r, form_complete w p (LetForm k) ts v (at z Close ∷ r) h, wholly)
+  paired_complete w p z (ClausesForm c) ts v r (clauses_braces {o = o} {mid = mid} {e = x} e h k) = (e, (x, at o OpenBrace ∷ mid, h, (v, at z Close ∷ r, image k, wholly)))
+  paired_complete w p z Check ts v r (check_braces h) = (v, at z Close ∷ r, branch_rows_on h, wholly)
+  paired_complete w p z Try ts v r h = try_on_form h
+  paired_complete w p z Begin ts v r h = absurd (no_begin h)
+  paired_complete w p z (Hypothesis x) ts v r h = (v, at z Close ∷ r, form_complete w p (Hypothesis x) ts v (at z Close ∷ r) h, wholly)
+  paired_complete w p z PickAny ts v r h = (v, at z Close ∷ r, form_complete w p PickAny ts v (at z Close ∷ r) h, wholly)
+  paired_complete w p z PickWitness ts v r h = (v, at z Close ∷ r, form_complete w p PickWitness ts v (at z Close ∷ r) h, wholly)
+
+  check_pairs_complete : (p : Pos) (w : Want) (q : Pos) (ts : List Placed) (bs : Branches) (l : Otherwise) (r : List Placed) → SpellsBranchPairs a false w ts bs l r → Means a (token (check_inside p w)) ts (check_at p bs l) r
+  check_pairs_complete p w q ts bs l r (branch_pairs_more {o = o} h k n) = branch_inside_on {o = o} (branch_pairs_more h k n)
+
+  abbrev item_rule : Pos → Want → Pos → Lexeme → Rule a_phrase
+  item_rule p w q t = push (λ f. token (second_rule p w (is_word t) (is_operator t) f)) (phrase_rule w (at q t))
+
+  -- a first item
+  item_complete : (p : Pos) (w : Want) (q : Pos) (t : Lexeme) (ts mid : List Placed) (f v : Phrase) (r : List Placed) → is_first_item t ≡ true → SpellsPhrase a w (at q t ∷ ts) f mid → Means a (token (second_rule p w (is_word t) (is_operator t) f)) mid v r → Means a (inside_rule p w (at q t)) ts v r
+  item_complete p w q Bang ts mid f v r e h k = elim h [ ]
+  item_complete p w q (Form x) ts mid f v r e h k = cc
+  item_complete p w q t ts mid f v r e h k = when_complete a (item_rule p w q t) v r (is_first_item t) ts e (f, mid, phrase_complete w (at q t ∷ ts) f mid h, k)
+
+  -- what stands behind it
+  close_complete : (p : Pos) (w : Want) (word op : Bool) (f : Phrase) (z : Pos) (r : List Placed) → word ≡ false → Means a (second_rule p w word op f (at z Close)) r f r
+  close_complete p w true op f z r e = cc
+  close_complete p w false op f z r e = wholly
+
+  colon_complete : (p : Pos) (w : Want) (word op : Bool) (f : Phrase) (o z : Pos) (s : SortText) (ts : List Placed) (r : List Placed) → allowed a (heads w f) ≡ true → SpellsSort ts s (at z Close ∷ r) → Means a (second_rule p w word op f (at o Colon)) ts (ascribe_at p f s) r
+  colon_complete p w true op f o z s ts r e h = (e, (s, at z Close ∷ r, h, wholly))
+  colon_complete p w false op f o z s ts r e h = (e, (s, at z Close ∷ r, h, wholly))
+
+  other_complete : (p : Pos) (w : Want) (word op : Bool) (f : Phrase) (z : Pos) (u : Lexeme) (us m : List Placed) (x v : Phrase) (r : List Placed) → SpellsPhrase a (only false) (at z u ∷ us) x m → Means a (unless (clashes op (is_operator u)) (check (heads w f) (apply_rule p f (at z u)))) us v r → Means a (second_rule p w word op f (at z u)) us v r
+  other_complete p w true op f z Close us m x v r hx h = elim hx [ ]
+  other_complete p w false op f z Close us m x v r hx h = elim hx [ ]
+  other_complete p w word op f z Colon us m x v r hx h = elim hx [ ]
+  other_complete p w word op f z u us m x v r hx h = h
+
+  apply_complete : (p : Pos) (w : Want) (q : Pos) (t : Lexeme) (f : Phrase) (mid m : List Placed) (x : Phrase) (xs : Phrases) (r : List Placed) → Fits a w false → IsExpression a (is_deduction f) → clashes (is_operator t) (starts is_operator mid) ≡ false → SpellsPhrase a (only false) mid x m → SpellsParts a (only false) round m xs r → Means a (token (second_rule p w (is_word t) (is_operator t) f)) mid (apply_at p f (more_phrases x xs)) r
+  apply_complete p w q t f [] m x xs r e g c hx k = elim hx [ ]
+  apply_complete p w q t f (at z u ∷ us) m x xs r e g c hx k =
+      other_complete p w (is_word t) (is_operator t) f z u us m x (apply_at p f (more_phrases x xs)) r hx
+        (unless_complete a (check (heads w f) (apply_rule p f (at z u))) (apply_at p f (more_phrases x xs)) r (clashes (is_operator t) (is_operator u)) us c
+          (allowed_if a (fits w false) (same_kind false (is_deduction f)) e g, (x, m, phrase_complete (only false) (at z u ∷ us) x m hx, (more_phrases x xs, r, image k, wholly))))
+
+  pub inside_complete : (p : Pos) (w : Want) (ts : List Placed) (v : Phrase) (r : List Placed) → SpellsPhrase a w (at p Open ∷ ts) v r → Means a (token (inside_rule p w)) ts v r
+  inside_complete p w ts v r (ascribe {q = q} {o = o} {z = z} {t = t} {ts = us} {mid = mid} {x = x} {s = s} e h f g k) =
+      item_complete p w q t us (at o Colon ∷ mid) x v r e h (colon_complete p w (is_word t) (is_operator t) x o z s mid r (allowed_if a (fits w false) (same_kind false (is_deduction x)) f g) k)
+  inside_complete p w ts v r (apply_none {q = q} {z = z} {c = c} {n = n} e f) = item_complete p w q (Word c n) (at z Close ∷ r) (at z Close ∷ r) (name_at q n) v r e (name f) wholly
+  inside_complete p w ts v r (apply {q = q} {t = t} {ts = us} {mid = mid} {m = m} {f = f} {x = x} {xs = xs} e h g i c hx k) = item_complete p w q t us mid f v r e h (apply_complete p w q t f mid m x xs r g i c hx k)
+  inside_complete p w ts v r (parens {q = q} {z = z} {t = t} {ts = us} e n h) = item_complete p w q t us (at z Close ∷ r) v v r e h (close_complete p w (is_word t) (is_operator t) v z r n)
+  inside_complete p w ts v r (call {mid = mid} {f = f} {xs = xs} e h k) = (e, (f, mid, h, (xs, r, image k, wholly)))
+  inside_complete p w ts v r (clauses_pairs {o = o} {c = c} {mid = mid} {e = x} {cs = cs} e h k) = (e, (x, at o Open ∷ mid, h, clause_inside_complete c p x (clause_want c w) o mid cs r k))
+  inside_complete p w ts v r (check_pairs {q = q} {ts = us} {bs = bs} {o = l} h) = check_pairs_complete p w q us bs l r h
+  inside_complete p w ts v r (try_parts e h k) = try_on_parts e h k
+  inside_complete p w ts v r (seq_parts {mid = mid} {x = x} {xs = xs} e h k) = (e, (x, mid, h, (more_phrases x xs, r, image k, wholly)))
+  inside_complete p w ts v r (paired {q = q} {z = z} {k = k} {ts = us} h) = paired_complete w p z k us v r h

@@ -1,0 +1,180 @@
+-- The rules of directives say what the grammar says.
+use Rattle.std.proofs.Common.{◌≡◌, ℕ, List, [], ◌∷◌, Bool, true, false, Option, Some, None, refl}
+use Rattle.ath_sorts.specs.declared.sorts.Sym.{Sym}
+use Rattle.ath_syntax.specs.declared.place.Pos.{Pos}
+use Rattle.ath_syntax.specs.declared.node.SortText.{SortText, Con as sort_con}
+use Rattle.ath_syntax.specs.Tree.{Phrase, DirectiveTree, directive_at, domain_is, datatype_is, declare_is, define_is, define_fun_is, assert_is, load_is, phrase_is, name_at}
+use Rattle.ath_grammar.specs.declared.lexeme.DirectiveWord.{DirectiveWord}
+use Rattle.ath_grammar.specs.declared.lexeme.DirectiveWord.TheVariants.{Domain, Datatype, Declare, Define, Assert, Load, Other}
+use Rattle.ath_grammar.specs.declared.lexeme.WordClass.{WordClass}
+use Rattle.ath_grammar.specs.declared.lexeme.WordClass.TheVariants.{Plain, Dotted, Logical, Infix, Tilde, Back}
+use Rattle.ath_grammar.specs.declared.lexeme.Lexeme.{Lexeme}
+use Rattle.ath_grammar.specs.declared.lexeme.Lexeme.TheVariants.{Word, Directive, To, SortVar, Str, Becomes, Open, Close, OpenBracket, Bar, Comma, Colon}
+use Rattle.ath_grammar.specs.Kinds.{any, only}
+use Rattle.ath_grammar.specs.Tokens.{Placed, at, is_bar, starts, starts_becomes, names_sentence}
+use Rattle.ath_grammar.specs.Small.{round, square, is_path, SpellsSort, sort_is_name, sort_is_var, sort_is_con, SpellsSorts, SpellsParams, SpellsVars, vars_end, vars_more}
+use Rattle.ath_grammar.specs.Phrases.{SpellsPhrase, name}
+use Rattle.ath_grammar.specs.Directives.{SpellsHeader, header_plain, header_vars, SpellsConstructor, constructor_plain, constructor_sorts, SpellsConstructorList, constructor_list_end, constructor_list_more, SpellsAlternatives, alternatives_last, alternatives_more, SpellsNames, names_last, names_more, SpellsNameList, name_list_end, name_list_more, SpellsGroup, group_one, group_list, SpellsType, type_sort, type_brackets, type_arrow, SpellsSignature, signature_plain, signature_params, SpellsDirective, domain_paired, domain, datatype_paired, datatype, declare_paired, declare, define_paired, define, define_fun_paired, define_fun, assert_paired, assert, assert_named, load_paired, load, phrase}
+use Rattle.ath_grammar.specs.Lists.{put}
+use Rattle.ath_grammar.specs.Rules.{Kind, a_directive, a_header, a_constructor, Header, Constructor, phrase_part, inside, sort_part, sorts, params, vars, header_part, constructor_part, constructor_list, alternatives, names, name_list, directive_part, Rule, done, refuse, token, peek, goto, push, check, deeper, shallower}
+use Rattle.ath_grammar.specs.SmallRules.{when, unless, close_mark, open_mark, to_mark, becomes_mark, expect, sort_rule}
+use Rattle.ath_grammar.specs.PhraseRules.{phrase_rule, inside_rule}
+use Rattle.ath_grammar.specs.DirectiveRules.{finish, equals, header_var, header_name, header_rule, constructor_name, constructor_rule, constructor_list_rule, after_constructor, alternative, alternatives_bar, declared_as, type_inside, type_rule, signature_inside, signature_rule, after_declared, names_rule, name_list_rule, group_first, group_rule, fun_name, define_rule, asserted, assert_becomes, assert_rule, load_rule, keyword_rule, phrase_said, directive_inside, directive_rule}
+use Rattle.ath_grammar.proofs.Meaning.{Image, image, AlternativesOn, alternatives_on, NamesOn, names_on, NameListOn, name_list_on, Whole, wholly, Means}
+use Rattle.ath_grammar.proofs.Steps.{allowed_true}
+use Rattle.ath_grammar.proofs.Expects.{Marked, marked_close, marked_open, marked_to, marked_becomes, expect_sound, when_sound, when_complete, unless_sound, unless_complete}
+use Rattle.ath_grammar.proofs.SmallParts.{sort_sound, sort_complete}
+use Rattle.ath_grammar.proofs.PhraseSound.{phrase_sound, inside_sound}
+use Rattle.ath_grammar.proofs.PhraseComplete.{phrase_complete, inside_complete}
+
+-- the end of a directive, and the bracket behind it where it has its own pair
+pub data Finished : Bool → DirectiveTree → List Placed → DirectiveTree → List Placed → Type 0 where
+  finished_bare : {d : DirectiveTree} {r : List Placed} → Finished false d r d r
+  finished_own : {d : DirectiveTree} {z : Pos} {r : List Placed} → Finished true d (at z Close ∷ r) d r
+
+-- `:=` where the directive hasn't its own pair
+pub data Equated : Bool → List Placed → List Placed → Type 0 where
+  equated_bare : {e : Pos} {r : List Placed} → Equated false (at e Becomes ∷ r) r
+  equated_own : {r : List Placed} → Equated true r r
+
+finished_case : {d v : DirectiveTree} {ts us r : List Placed} → Marked close_mark ts us → Whole d us v r → Finished true d ts v r
+finished_case marked_close wholly = finished_own
+
+equated_case : {ts us : List Placed} → Marked becomes_mark ts us → Equated false ts us
+equated_case marked_becomes = equated_bare
+
+header_plain_case : {q : Pos} {n : Sym} {ts r : List Placed} {v : Header} → Whole (n, []) ts v r → SpellsHeader (at q (Word Plain n) ∷ ts) v r
+header_plain_case wholly = header_plain
+
+header_vars_case : {o q x : Pos} {n y : Sym} {ts mid r : List Placed} {vs : List Sym} {v : Header} → Image (put (y ∷ [])) (λ ys. SpellsVars (y ∷ []) ts ys mid) vs → Whole (n, vs) mid v r → SpellsHeader (at o Open ∷ at q (Word Plain n) ∷ at x (SortVar y) ∷ ts) v r
+header_vars_case (image h) wholly = header_vars (vars_more refl h)
+
+constructor_plain_case : {q : Pos} {n : Sym} {ts r : List Placed} {v : Constructor} → Whole (n, []) ts v r → SpellsConstructor (at q (Word Plain n) ∷ ts) v r
+constructor_plain_case wholly = constructor_plain
+
+constructor_sorts_case : {o q : Pos} {n : Sym} {ts mid r : List Placed} {ss : List SortText} {v : Constructor} → Image (put []) (λ ys. SpellsSorts round ts ys mid) ss → Whole (n, ss) mid v r → SpellsConstructor (at o Open ∷ at q (Word Plain n) ∷ ts) v r
+constructor_sorts_case (image h) wholly = constructor_sorts h
+
+module _ (a : Bool) where
+  finish_sound : (own : Bool) (d : DirectiveTree) (ts : List Placed) (v : DirectiveTree) (r : List Placed) → Means a (finish own d) ts v r → Finished own d ts v r
+  finish_sound true d ts v r h = let (us, m, k) = expect_sound {k = a_directive} a (shallower (done d)) v r close_mark ts h in finished_case m k
+  finish_sound false d ts v r wholly = finished_bare
+
+  equals_sound : (own : Bool) (q : Rule a_directive) (ts : List Placed) (v : DirectiveTree) (r : List Placed) → Means a (equals own q) ts v r → (us : List Placed) × Equated own ts us × Means a q us v r
+  equals_sound true q ts v r h = (ts, equated_own, h)
+  equals_sound false q ts v r h = let (us, m, k) = expect_sound a q v r becomes_mark ts h in (us, equated_case m, k)
+
+  header_var_sound : (o q : Pos) (n : Sym) (ts : List Placed) (v : Header) (r : List Placed) → Means a (token (header_var n)) ts v r → SpellsHeader (at o Open ∷ at q (Word Plain n) ∷ ts) v r
+  header_var_sound o q n [] v r h = absurd h
+  header_var_sound o q n (at x (SortVar y) ∷ ts) v r (vs, mid, h, k) = header_vars_case h k
+  header_var_sound o q n (at x t ∷ ts) v r h = absurd h
+
+  header_name_sound : (o : Pos) (ts : List Placed) (v : Header) (r : List Placed) → Means a (token header_name) ts v r → SpellsHeader (at o Open ∷ ts) v r
+  header_name_sound o [] v r h = absurd h
+  header_name_sound o (at q (Word Plain n) ∷ ts) v r h = header_var_sound o q n ts v r h
+  header_name_sound o (at q t ∷ ts) v r h = absurd h
+
+  pub header_sound : (ts : List Placed) (v : Header) (r : List Placed) → Means a (token header_rule) ts v r → SpellsHeader ts v r
+  header_sound [] v r h = absurd h
+  header_sound (at q (Word Plain n) ∷ ts) v r h = header_plain_case h
+  header_sound (at q Open ∷ ts) v r h = header_name_sound q ts v r h
+  header_sound (at q t ∷ ts) v r h = absurd h
+
+  header_vars_complete : (n : Sym) (x : Pos) (y : Sym) (ts : List Placed) (vs : List Sym) (r : List Placed) → SpellsVars [] (at x (SortVar y) ∷ ts) vs r → Means a (token (header_var n)) (at x (SortVar y) ∷ ts) (n, vs) r
+  header_vars_complete n x y ts vs r (vars_more e h) = (vs, r, image h, wholly)
+
+  pub header_complete : (ts : List Placed) (v : Header) (r : List Placed) → SpellsHeader ts v r → Means a (token header_rule) ts v r
+  header_complete ts v r header_plain = wholly
+  header_complete ts v r (header_vars {v = x} {n = n} {x = y} {ts = us} {vs = vs} h) = header_vars_complete n x y us vs r h
+
+  constructor_name_sound : (o : Pos) (ts : List Placed) (v : Constructor) (r : List Placed) → Means a (token constructor_name) ts v r → SpellsConstructor (at o Open ∷ ts) v r
+  constructor_name_sound o [] v r h = absurd h
+  constructor_name_sound o (at q (Word Plain n) ∷ ts) v r (ss, mid, h, k) = constructor_sorts_case h k
+  constructor_name_sound o (at q t ∷ ts) v r h = absurd h
+
+  pub constructor_sound : (ts : List Placed) (v : Constructor) (r : List Placed) → Means a (token constructor_rule) ts v r → SpellsConstructor ts v r
+  constructor_sound [] v r h = absurd h
+  constructor_sound (at q (Word Plain n) ∷ ts) v r h = constructor_plain_case h
+  constructor_sound (at q Open ∷ ts) v r h = constructor_name_sound q ts v r h
+  constructor_sound (at q t ∷ ts) v r h = absurd h
+
+  pub constructor_complete : (ts : List Placed) (v : Constructor) (r : List Placed) → SpellsConstructor ts v r → Means a (token constructor_rule) ts v r
+  constructor_complete ts v r constructor_plain = wholly
+  constructor_complete ts v r (constructor_sorts {ss = ss} h) = (ss, r, image h, wholly)
+
+  -- constructors up to a bracket
+  abbrev ListOn : Pos → Header → List Constructor → List Placed → DirectiveTree → List Placed → Type 0
+  ListOn p h cs ts v r = Image (λ ys. directive_at p (datatype_is h.0 h.1 (put cs ys))) (λ ys. SpellsConstructorList ts ys r) v
+
+  list_end_case : (p : Pos) (h : Header) (cs : List Constructor) (z : Pos) (ts : List Placed) (v : DirectiveTree) (r : List Placed) → Whole (directive_at p (datatype_is h.0 h.1 (put cs []))) ts v r → ListOn p h cs (at z Close ∷ ts) v r
+  list_end_case p h cs z ts v r wholly = image constructor_list_end
+
+  list_more_case : (p : Pos) (h : Header) (cs : List Constructor) (c : Constructor) (ts mid : List Placed) (v : DirectiveTree) (r : List Placed) → SpellsConstructor ts c mid → ListOn p h (c ∷ cs) mid v r → ListOn p h cs ts v r
+  list_more_case p h cs c ts mid v r k (image m) = image (constructor_list_more k m)
+
+  pub constructor_list_sound : (p : Pos) (h : Header) (cs : List Constructor) (ts : List Placed) (v : DirectiveTree) (r : List Placed) → Means a (token (constructor_list_rule p h cs)) ts v r → Image (λ ys. directive_at p (datatype_is h.0 h.1 (put cs ys))) (λ ys. SpellsConstructorList ts ys r) v
+  constructor_list_sound p h cs [] v r m = absurd m
+  constructor_list_sound p h cs (at z Close ∷ ts) v r m = list_end_case p h cs z ts v r m
+  constructor_list_sound p h cs (at z t ∷ ts) v r (c, mid, hc, m) = list_more_case p h cs c (at z t ∷ ts) mid v r (constructor_sound (at z t ∷ ts) c mid hc) m
+
+  list_next : (p : Pos) (h : Header) (cs : List Constructor) (c : Constructor) (ts mid : List Placed) (v : DirectiveTree) (r : List Placed) → SpellsConstructor ts c mid → ListOn p h (c ∷ cs) mid v r → Means a (token (constructor_list_rule p h cs)) ts v r
+  list_next p h cs c [] mid v r k m = elim k [ ]
+  list_next p h cs c (at z Close ∷ ts) mid v r k m = elim k [ ]
+  list_next p h cs c (at z t ∷ ts) mid v r k m = (c, mid, constructor_complete (at z t ∷ ts) c mid k, m)
+
+  pub constructor_list_complete : (p : Pos) (h : Header) (cs : List Constructor) (ts : List Placed) (v : DirectiveTree) (r : List Placed) → Image (λ ys. directive_at p (datatype_is h.0 h.1 (put cs ys))) (λ ys. SpellsConstructorList ts ys r) v → Means a (token (constructor_list_rule p h cs)) ts v r
+  constructor_list_complete p h cs ts v r (image constructor_list_end) = wholly
+  constructor_list_complete p h cs ts v r (image (constructor_list_more {mid = mid} {c = c} k m)) = list_next p h cs c ts mid v r k (image m)
+
+  -- constructors with bars
+  abbrev Alternatives : Pos → Header → List Constructor → List Placed → DirectiveTree → List Placed → Type 0
+  Alternatives p h cs ts v r = Image (λ ys. directive_at p (datatype_is h.0 h.1 (put cs ys))) (λ ys. SpellsAlternatives ts ys r) v
+
+  last_case : (p : Pos) (h : Header) (cs : List Constructor) (c : Constructor) (ts mid : List Placed) (v : DirectiveTree) (r : List Placed) → SpellsConstructor ts c mid → starts is_bar mid ≡ false → Whole (directive_at p (datatype_is h.0 h.1 (put (c ∷ cs) []))) mid v r → Alternatives p h cs ts v r
+  last_case p h cs c ts mid v r k e wholly = image (alternatives_last k e)
+
+  more_case : (p : Pos) (h : Header) (cs : List Constructor) (c : Constructor) (ts : List Placed) (b : Pos) (us : List Placed) (v : DirectiveTree) (r : List Placed) → SpellsConstructor ts c (at b Bar ∷ us) → AlternativesOn p h (c ∷ cs) (at b Bar ∷ us) v r → Alternatives p h cs ts v r
+  more_case p h cs c ts b us v r k (alternatives_on m) = image (alternatives_more k m)
+
+  after_sound : (p : Pos) (h : Header) (cs : List Constructor) (c : Constructor) (ts mid : List Placed) (v : DirectiveTree) (r : List Placed) → SpellsConstructor ts c mid → Means a (peek (after_constructor p h (c ∷ cs)) (done (directive_at p (datatype_is h.0 h.1 (put (c ∷ cs) []))))) mid v r → Alternatives p h cs ts v r
+  after_sound p h cs c ts [] v r k m = last_case p h cs c ts [] v r k refl m
+  after_sound p h cs c ts (at b Bar ∷ us) v r k m = more_case p h cs c ts b us v r k m
+  after_sound p h cs c ts (at b t ∷ us) v r k m = last_case p h cs c ts (at b t ∷ us) v r k refl m
+
+  alternative_sound : (p : Pos) (h : Header) (cs : List Constructor) (ts : List Placed) (v : DirectiveTree) (r : List Placed) → Means a (alternative p h cs) ts v r → Alternatives p h cs ts v r
+  alternative_sound p h cs ts v r (c, mid, k, m) = after_sound p h cs c ts mid v r k m
+
+  bar_case : (p : Pos) (h : Header) (cs : List Constructor) (b : Pos) (ts : List Placed) (v : DirectiveTree) (r : List Placed) → Alternatives p h cs ts v r → AlternativesOn p h cs (at b Bar ∷ ts) v r
+  bar_case p h cs b ts v r (image m) = alternatives_on m
+
+  pub alternatives_sound : (p : Pos) (h : Header) (cs : List Constructor) (ts : List Placed) (v : DirectiveTree) (r : List Placed) → Means a (token (alternatives_bar p h cs)) ts v r → AlternativesOn p h cs ts v r
+  alternatives_sound p h cs [] v r m = absurd m
+  alternatives_sound p h cs (at b Bar ∷ ts) v r m = bar_case p h cs b ts v r (alternative_sound p h cs ts v r m)
+  alternatives_sound p h cs (at b t ∷ ts) v r m = absurd m
+
+  no_bar : (p : Pos) (h : Header) (cs : List Constructor) (ts : List Placed) → starts is_bar ts ≡ false → Means a (peek (after_constructor p h cs) (done (directive_at p (datatype_is h.0 h.1 (put cs []))))) ts (directive_at p (datatype_is h.0 h.1 (put cs []))) ts
+  no_bar p h cs [] e = wholly
+  no_bar p h cs (at b Bar ∷ ts) e = cc
+  no_bar p h cs (at b t ∷ ts) e = wholly
+
+  alternative_complete : (p : Pos) (h : Header) (cs : List Constructor) (ts : List Placed) (more : List Constructor) (r : List Placed) → SpellsAlternatives ts more r → Means a (alternative p h cs) ts (directive_at p (datatype_is h.0 h.1 (put cs more))) r
+  alternative_complete p h cs ts more r (alternatives_last {c = c} k e) = (c, r, k, no_bar p h (c ∷ cs) r e)
+  alternative_complete p h cs ts more r (alternatives_more {b = b} {mid = mid} {c = c} k m) = (c, at b Bar ∷ mid, k, alternatives_on m)
+
+  pub alternatives_complete : (p : Pos) (h : Header) (cs : List Constructor) (ts : List Placed) (v : DirectiveTree) (r : List Placed) → AlternativesOn p h cs ts v r → Means a (token (alternatives_bar p h cs)) ts v r
+  alternatives_complete p h cs ts v r (alternatives_on {more = more} {ts = us} m) = alternative_complete p h cs us more r m
+
+  finish_complete : (own : Bool) (d : DirectiveTree) (ts : List Placed) (v : DirectiveTree) (r : List Placed) → Finished own d ts v r → Means a (finish own d) ts v r
+  finish_complete own d ts v r finished_bare = wholly
+  finish_complete own d ts v r finished_own = wholly
+
+  equals_complete : (own : Bool) (q : Rule a_directive) (ts us : List Placed) (v : DirectiveTree) (r : List Placed) → Equated own ts us → Means a q us v r → Means a (equals own q) ts v r
+  equals_complete own q ts us v r equated_bare h = h
+  equals_complete own q ts us v r equated_own h = h
+
+  -- the sorts of a `declare`, and its end
+  data TypeOn (own : Bool) (p : Pos) (ns : List Sym) (vs : Option (List Sym)) : List Placed → DirectiveTree → List Placed → Type 0 where
+    type_on : {ts mid r : List Placed} {ss : List SortText} {s : SortText} {v : DirectiveTree} → SpellsType own ts ss s mid → Finished own (directive_at p (declare_is (put ns []) vs ss s)) mid v r → TypeOn own p ns vs ts v r
+
+  data SignatureOn (own : Bool) (p : Pos) (ns : List Sym) : List Placed → DirectiveTree → List Placed → Type 0 where
+    signature_on : {ts mid r : List Placed} {vs : Option (List Sym)} {ss : List SortText} {s : SortText} {v : DirectiveTree} → SpellsSignature own ts vs ss s mid → Finished own (directive_at p (declare_is (put ns []) vs ss s)) mid v r → SignatureOn own p ns ts v r

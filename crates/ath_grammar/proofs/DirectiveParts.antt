@@ -178,3 +178,145 @@ module _ (a : Bool) where
 
   data SignatureOn (own : Bool) (p : Pos) (ns : List Sym) : List Placed → DirectiveTree → List Placed → Type 0 where
     signature_on : {ts mid r : List Placed} {vs : Option (List Sym)} {ss : List SortText} {s : SortText} {v : DirectiveTree} → SpellsSignature own ts vs ss s mid → Finished own (directive_at p (declare_is (put ns []) vs ss s)) mid v r → SignatureOn own p ns ts v r
+
+  sort_case : (own : Bool) (p : Pos) (ns : List Sym) (vs : Option (List Sym)) (s : SortText) (ts mid : List Placed) (v : DirectiveTree) (r : List Placed) → SpellsSort ts s mid → Means a (declared_as own p ns vs [] s) mid v r → TypeOn own p ns vs ts v r
+  sort_case own p ns vs s ts mid v r hs h = type_on (type_sort hs) (finish_sound own (directive_at p (declare_is (put ns []) vs [] s)) mid v r h)
+
+  abbrev con_rule : Bool → Pos → List Sym → Option (List Sym) → WordClass → Sym → Rule a_directive
+  con_rule own p ns vs c n = when (is_path c) (push (λ ss. declared_as own p ns vs [] (sort_con n ss)) (goto (sorts round [])))
+
+  con_sorts : {o q : Pos} {c : WordClass} {n : Sym} {ts mid : List Placed} {ss : List SortText} → is_path c ≡ true → Image (put []) (λ ys. SpellsSorts round ts ys mid) ss → SpellsSort (at o Open ∷ at q (Word c n) ∷ ts) (sort_con n ss) mid
+  con_sorts e (image h) = sort_is_con e h
+
+  con_sound : (own : Bool) (p : Pos) (ns : List Sym) (vs : Option (List Sym)) (o q : Pos) (c : WordClass) (n : Sym) (ts : List Placed) (v : DirectiveTree) (r : List Placed) → Means a (con_rule own p ns vs c n) ts v r → TypeOn own p ns vs (at o Open ∷ at q (Word c n) ∷ ts) v r
+  con_sound own p ns vs o q c n ts v r h =
+      let (e, (ss, mid, k, d)) = when_sound a (push (λ ss. declared_as own p ns vs [] (sort_con n ss)) (goto (sorts round []))) v r (is_path c) ts h in
+        sort_case own p ns vs (sort_con n ss) (at o Open ∷ at q (Word c n) ∷ ts) mid v r (con_sorts e k) d
+
+  arrow_case : (p : Pos) (ns : List Sym) (vs : Option (List Sym)) (o q : Pos) {ts us m ms n r : List Placed} {ss : List SortText} {s : SortText} {v : DirectiveTree} → Marked open_mark ts us → Image (put []) (λ ys. SpellsSorts round us ys m) ss → SpellsSort m s ms → Marked close_mark ms n → Finished true (directive_at p (declare_is (put ns []) vs ss s)) n v r → TypeOn true p ns vs (at o Open ∷ at q To ∷ ts) v r
+  arrow_case p ns vs o q marked_open (image h) hs marked_close f = type_on (type_arrow h hs) f
+
+  abbrev arrow_rest : Pos → List Sym → Option (List Sym) → Rule a_directive
+  arrow_rest p ns vs = deeper (push (λ ss. push (λ s. expect close_mark (shallower (declared_as true p ns vs ss s))) (goto sort_part)) (goto (sorts round [])))
+
+  type_inside_sound : (own : Bool) (p : Pos) (ns : List Sym) (vs : Option (List Sym)) (o : Pos) (ts : List Placed) (v : DirectiveTree) (r : List Placed) → Means a (token (type_inside own p ns vs)) ts v r → TypeOn own p ns vs (at o Open ∷ ts) v r
+  type_inside_sound own p ns vs o [] v r h = absurd h
+  type_inside_sound true p ns vs o (at q To ∷ ts) v r h =
+      let (us, m, (ss, n, k, (s, l, hs, c))) = expect_sound a (arrow_rest p ns vs) v r open_mark ts h in
+      let (ms, z, d) = expect_sound {k = a_directive} a (shallower (declared_as true p ns vs ss s)) v r close_mark l c in
+        arrow_case p ns vs o q m k hs z (finish_sound true (directive_at p (declare_is (put ns []) vs ss s)) ms v r d)
+  type_inside_sound true p ns vs o (at q (Word c n) ∷ ts) v r h = con_sound true p ns vs o q c n ts v r h
+  type_inside_sound false p ns vs o (at q (Word c n) ∷ ts) v r h = con_sound false p ns vs o q c n ts v r h
+  type_inside_sound own p ns vs o (at q t ∷ ts) v r h = absurd h
+
+  brackets_case : (p : Pos) (ns : List Sym) (vs : Option (List Sym)) (o : Pos) {ts m us mid r : List Placed} {ss : List SortText} {s : SortText} {v : DirectiveTree} → Image (put []) (λ ys. SpellsSorts square ts ys m) ss → Marked to_mark m us → SpellsSort us s mid → Finished false (directive_at p (declare_is (put ns []) vs ss s)) mid v r → TypeOn false p ns vs (at o OpenBracket ∷ ts) v r
+  brackets_case p ns vs o (image h) marked_to hs f = type_on (type_brackets h hs) f
+
+  type_sound : (own : Bool) (p : Pos) (ns : List Sym) (vs : Option (List Sym)) (ts : List Placed) (v : DirectiveTree) (r : List Placed) → Means a (token (type_rule own p ns vs)) ts v r → TypeOn own p ns vs ts v r
+  type_sound own p ns vs [] v r h = absurd h
+  type_sound own p ns vs (at o Open ∷ ts) v r h = type_inside_sound own p ns vs o ts v r h
+  type_sound false p ns vs (at o OpenBracket ∷ ts) v r (ss, m, k, h) =
+      let (us, t, (s, mid, hs, d)) = expect_sound {k = a_directive} a (push (declared_as false p ns vs ss) (goto sort_part)) v r to_mark m h in
+        brackets_case p ns vs o k t hs (finish_sound false (directive_at p (declare_is (put ns []) vs ss s)) mid v r d)
+  type_sound true p ns vs (at o t ∷ ts) v r (s, mid, hs, h) = sort_case true p ns vs s (at o t ∷ ts) mid v r (sort_sound a (at o t ∷ ts) s mid hs) h
+  type_sound false p ns vs (at o t ∷ ts) v r (s, mid, hs, h) = sort_case false p ns vs s (at o t ∷ ts) mid v r (sort_sound a (at o t ∷ ts) s mid hs) h
+
+  params_case : (own : Bool) (p : Pos) (ns : List Sym) (o q : Pos) (y : Sym) {ts mid r : List Placed} {vs : List Sym} {v : DirectiveTree} → Image (put (y ∷ [])) (λ ys. SpellsVars (y ∷ []) ts ys mid) vs → TypeOn own p ns (Some vs) mid v r → SignatureOn own p ns (at o Open ∷ at q (SortVar y) ∷ ts) v r
+  params_case own p ns o q y (image h) (type_on t f) = signature_on (signature_params (vars_more refl h) t) f
+
+  no_params : (own : Bool) (p : Pos) (ns : List Sym) (o q : Pos) {ts r : List Placed} {v : DirectiveTree} → TypeOn own p ns (Some []) ts v r → SignatureOn own p ns (at o Open ∷ at q Close ∷ ts) v r
+  no_params own p ns o q (type_on t f) = signature_on (signature_params vars_end t) f
+
+  plain_case : (own : Bool) (p : Pos) (ns : List Sym) {ts r : List Placed} {v : DirectiveTree} → TypeOn own p ns None ts v r → SignatureOn own p ns ts v r
+  plain_case own p ns (type_on t f) = signature_on (signature_plain t) f
+
+  signature_inside_sound : (own : Bool) (p : Pos) (ns : List Sym) (o : Pos) (ts : List Placed) (v : DirectiveTree) (r : List Placed) → Means a (token (signature_inside own p ns)) ts v r → SignatureOn own p ns (at o Open ∷ ts) v r
+  signature_inside_sound own p ns o [] v r h = absurd h
+  signature_inside_sound own p ns o (at q (SortVar y) ∷ ts) v r (vs, mid, k, h) = params_case own p ns o q y k (type_sound own p ns (Some vs) mid v r h)
+  signature_inside_sound own p ns o (at q Close ∷ ts) v r h = no_params own p ns o q (type_sound own p ns (Some []) ts v r h)
+  signature_inside_sound own p ns o (at q t ∷ ts) v r h = plain_case own p ns (type_inside_sound own p ns None o (at q t ∷ ts) v r h)
+
+  signature_sound : (own : Bool) (p : Pos) (ns : List Sym) (ts : List Placed) (v : DirectiveTree) (r : List Placed) → Means a (token (signature_rule own p ns)) ts v r → SignatureOn own p ns ts v r
+  signature_sound own p ns [] v r h = absurd h
+  signature_sound own p ns (at o Open ∷ ts) v r h = signature_inside_sound own p ns o ts v r h
+  signature_sound own p ns (at o t ∷ ts) v r h = plain_case own p ns (type_sound own p ns None (at o t ∷ ts) v r h)
+
+  -- the same the other way
+  con_complete : (own : Bool) (p : Pos) (ns : List Sym) (vs : Option (List Sym)) (c : WordClass) (n : Sym) (ss : List SortText) (ts mid : List Placed) (v : DirectiveTree) (r : List Placed) → is_path c ≡ true → SpellsSorts round ts ss mid → Finished own (directive_at p (declare_is (put ns []) vs [] (sort_con n ss))) mid v r → Means a (con_rule own p ns vs c n) ts v r
+  con_complete own p ns vs c n ss ts mid v r e h f = when_complete a (push (λ ss. declared_as own p ns vs [] (sort_con n ss)) (goto (sorts round []))) v r (is_path c) ts e (ss, mid, image h, finish_complete own (directive_at p (declare_is (put ns []) vs [] (sort_con n ss))) mid v r f)
+
+  con_inside : (own : Bool) (p : Pos) (ns : List Sym) (vs : Option (List Sym)) (q : Pos) (c : WordClass) (n : Sym) (ts : List Placed) (v : DirectiveTree) (r : List Placed) → Means a (con_rule own p ns vs c n) ts v r → Means a (type_inside own p ns vs (at q (Word c n))) ts v r
+  con_inside true p ns vs q c n ts v r h = h
+  con_inside false p ns vs q c n ts v r h = h
+
+  plain_sort : (own : Bool) (p : Pos) (ns : List Sym) (vs : Option (List Sym)) (s : SortText) (ts mid : List Placed) (v : DirectiveTree) (r : List Placed) → SpellsSort ts s mid → Finished own (directive_at p (declare_is (put ns []) vs [] s)) mid v r → Means a (token (type_rule own p ns vs)) ts v r
+  plain_sort true p ns vs s ts mid v r (sort_is_name {p = o} {c = c} {n = n} e) f = (s, mid, sort_complete a ts s mid (sort_is_name e), finish_complete true (directive_at p (declare_is (put ns []) vs [] s)) mid v r f)
+  plain_sort false p ns vs s ts mid v r (sort_is_name {p = o} {c = c} {n = n} e) f = (s, mid, sort_complete a ts s mid (sort_is_name e), finish_complete false (directive_at p (declare_is (put ns []) vs [] s)) mid v r f)
+  plain_sort true p ns vs s ts mid v r sort_is_var f = (s, mid, wholly, finish_complete true (directive_at p (declare_is (put ns []) vs [] s)) mid v r f)
+  plain_sort false p ns vs s ts mid v r sort_is_var f = (s, mid, wholly, finish_complete false (directive_at p (declare_is (put ns []) vs [] s)) mid v r f)
+  plain_sort own p ns vs s ts mid v r (sort_is_con {q = q} {c = c} {n = n} {ts = us} {ss = ss} e h) f = con_inside own p ns vs q c n us v r (con_complete own p ns vs c n ss us mid v r e h f)
+
+  type_complete : (own : Bool) (p : Pos) (ns : List Sym) (vs : Option (List Sym)) (ss : List SortText) (s : SortText) (ts mid : List Placed) (v : DirectiveTree) (r : List Placed) → SpellsType own ts ss s mid → Finished own (directive_at p (declare_is (put ns []) vs ss s)) mid v r → Means a (token (type_rule own p ns vs)) ts v r
+  type_complete own p ns vs ss s ts mid v r (type_sort hs) f = plain_sort own p ns vs s ts mid v r hs f
+  type_complete own p ns vs ss s ts mid v r (type_brackets {q = q} {mid = m} h hs) f = (ss, at q To ∷ m, image h, (s, mid, hs, finish_complete false (directive_at p (declare_is (put ns []) vs ss s)) mid v r f))
+  type_complete own p ns vs ss s ts mid v r (type_arrow {z = z} {mid = m} h hs) f = (ss, m, image h, (s, at z Close ∷ mid, hs, finish_complete true (directive_at p (declare_is (put ns []) vs ss s)) mid v r f))
+
+  -- without parameters
+  bare_signature : (own : Bool) (p : Pos) (ns : List Sym) (ss : List SortText) (s : SortText) (ts mid : List Placed) (v : DirectiveTree) (r : List Placed) → SpellsType own ts ss s mid → Means a (token (type_rule own p ns None)) ts v r → Means a (token (signature_rule own p ns)) ts v r
+  bare_signature own p ns ss s ts mid v r (type_sort (sort_is_name e)) h = h
+  bare_signature own p ns ss s ts mid v r (type_sort sort_is_var) h = h
+  bare_signature own p ns ss s ts mid v r (type_sort (sort_is_con e k)) h = h
+  bare_signature own p ns ss s ts mid v r (type_brackets k hs) h = h
+  bare_signature own p ns ss s ts mid v r (type_arrow k hs) h = h
+
+  with_params : (own : Bool) (p : Pos) (ns vs : List Sym) (o : Pos) (ts mid : List Placed) (v : DirectiveTree) (r : List Placed) → SpellsVars [] ts vs mid → Means a (token (type_rule own p ns (Some vs))) mid v r → Means a (token (signature_rule own p ns)) (at o Open ∷ ts) v r
+  with_params own p ns vs o ts mid v r vars_end h = h
+  with_params own p ns vs o ts mid v r (vars_more e k) h = (vs, mid, image k, h)
+
+  signature_complete : (own : Bool) (p : Pos) (ns : List Sym) (vs : Option (List Sym)) (ss : List SortText) (s : SortText) (ts mid : List Placed) (v : DirectiveTree) (r : List Placed) → SpellsSignature own ts vs ss s mid → Finished own (directive_at p (declare_is (put ns []) vs ss s)) mid v r → Means a (token (signature_rule own p ns)) ts v r
+  signature_complete own p ns vs ss s ts mid v r (signature_plain t) f = bare_signature own p ns ss s ts mid v r t (type_complete own p ns None ss s ts mid v r t f)
+  signature_complete own p ns vs ss s ts mid v r (signature_params {o = o} {ts = us} {mid = m} {vs = ws} k t) f = with_params own p ns ws o us m v r k (type_complete own p ns (Some ws) ss s m mid v r t f)
+
+  -- names of a `declare`
+  comma_case : (p : Pos) (ns : List Sym) (q z : Pos) (n : Sym) {ts r : List Placed} {v : DirectiveTree} → NamesOn p (n ∷ ns) ts v r → NamesOn p ns (at q (Word Plain n) ∷ at z Comma ∷ ts) v r
+  comma_case p ns q z n (names_on h k) = names_on (names_more h) k
+
+  colon_case : (p : Pos) (ns : List Sym) (q z : Pos) (n : Sym) {ts mid r : List Placed} {vs : Option (List Sym)} {ss : List SortText} {s : SortText} {v : DirectiveTree} → SpellsSignature false ts vs ss s mid → Finished false (directive_at p (declare_is (put (n ∷ ns) []) vs ss s)) mid v r → NamesOn p ns (at q (Word Plain n) ∷ at z Colon ∷ ts) v r
+  colon_case p ns q z n k finished_bare = names_on names_last k
+
+  colon_on : (p : Pos) (ns : List Sym) (q z : Pos) (n : Sym) {ts r : List Placed} {v : DirectiveTree} → SignatureOn false p (n ∷ ns) ts v r → NamesOn p ns (at q (Word Plain n) ∷ at z Colon ∷ ts) v r
+  colon_on p ns q z n (signature_on k f) = colon_case p ns q z n k f
+
+  after_declared_sound : (p : Pos) (ns : List Sym) (q : Pos) (n : Sym) (ts : List Placed) (v : DirectiveTree) (r : List Placed) → Means a (token (after_declared p (n ∷ ns))) ts v r → NamesOn p ns (at q (Word Plain n) ∷ ts) v r
+  after_declared_sound p ns q n [] v r h = absurd h
+  after_declared_sound p ns q n (at z Comma ∷ ts) v r h = comma_case p ns q z n h
+  after_declared_sound p ns q n (at z Colon ∷ ts) v r h = colon_on p ns q z n (signature_sound false p (n ∷ ns) ts v r h)
+  after_declared_sound p ns q n (at z t ∷ ts) v r h = absurd h
+
+  pub names_sound : (p : Pos) (ns : List Sym) (ts : List Placed) (v : DirectiveTree) (r : List Placed) → Means a (token (names_rule p ns)) ts v r → NamesOn p ns ts v r
+  names_sound p ns [] v r h = absurd h
+  names_sound p ns (at q (Word Plain n) ∷ ts) v r h = after_declared_sound p ns q n ts v r h
+  names_sound p ns (at q t ∷ ts) v r h = absurd h
+
+  pub names_complete : (p : Pos) (ns : List Sym) (ts : List Placed) (v : DirectiveTree) (r : List Placed) → NamesOn p ns ts v r → Means a (token (names_rule p ns)) ts v r
+  names_complete p ns ts v r (names_on {vs = vs} {ss = ss} {s = s} {mid = mid} (names_last {n = n}) k) = signature_complete false p (n ∷ ns) vs ss s mid r v r k finished_bare
+  names_complete p ns ts v r (names_on (names_more h) k) = names_on h k
+
+  name_more_case : (p : Pos) (ns : List Sym) (q : Pos) (n : Sym) {ts r : List Placed} {v : DirectiveTree} → NameListOn p (n ∷ ns) ts v r → NameListOn p ns (at q (Word Plain n) ∷ ts) v r
+  name_more_case p ns q n (name_list_on h k) = name_list_on (name_list_more h) k
+
+  name_end_case : (p : Pos) (ns : List Sym) (q : Pos) {ts mid r : List Placed} {vs : Option (List Sym)} {ss : List SortText} {s : SortText} {v : DirectiveTree} → SpellsSignature true ts vs ss s mid → Finished true (directive_at p (declare_is (put ns []) vs ss s)) mid v r → NameListOn p ns (at q Close ∷ ts) v r
+  name_end_case p ns q k finished_own = name_list_on name_list_end k
+
+  name_end_on : (p : Pos) (ns : List Sym) (q : Pos) {ts r : List Placed} {v : DirectiveTree} → SignatureOn true p ns ts v r → NameListOn p ns (at q Close ∷ ts) v r
+  name_end_on p ns q (signature_on k f) = name_end_case p ns q k f
+
+  pub name_list_sound : (p : Pos) (ns : List Sym) (ts : List Placed) (v : DirectiveTree) (r : List Placed) → Means a (token (name_list_rule p ns)) ts v r → NameListOn p ns ts v r
+  name_list_sound p ns [] v r h = absurd h
+  name_list_sound p ns (at q (Word Plain n) ∷ ts) v r h = name_more_case p ns q n h
+  name_list_sound p ns (at q Close ∷ ts) v r h = name_end_on p ns q (signature_sound true p ns ts v r h)
+  name_list_sound p ns (at q t ∷ ts) v r h = absurd h
+
+  pub name_list_complete : (p : Pos) (ns : List Sym) (ts : List Placed) (v : DirectiveTree) (r : List Placed) → NameListOn p ns ts v r → Means a (token (name_list_rule p ns)) ts v r
+  name_list_complete p ns ts v r (name_list_on {z = z} {vs = vs} {ss = ss} {s = s} {mid = mid} name_list_end k) = signature_complete true p ns vs ss s mid (at z Close ∷ r) v r k finished_own
+  name_list_complete p ns ts v r (name_list_on (name_list_more h) k) = name_list_on h k

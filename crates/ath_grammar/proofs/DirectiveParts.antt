@@ -56,11 +56,11 @@ constructor_sorts_case : {o q : Pos} {n : Sym} {ts mid r : List Placed} {ss : Li
 constructor_sorts_case (image h) wholly = constructor_sorts h
 
 module _ (a : Bool) where
-  finish_sound : (own : Bool) (d : DirectiveTree) (ts : List Placed) (v : DirectiveTree) (r : List Placed) → Means a (finish own d) ts v r → Finished own d ts v r
+  pub finish_sound : (own : Bool) (d : DirectiveTree) (ts : List Placed) (v : DirectiveTree) (r : List Placed) → Means a (finish own d) ts v r → Finished own d ts v r
   finish_sound true d ts v r h = let (us, m, k) = expect_sound {k = a_directive} a (shallower (done d)) v r close_mark ts h in finished_case m k
   finish_sound false d ts v r wholly = finished_bare
 
-  equals_sound : (own : Bool) (q : Rule a_directive) (ts : List Placed) (v : DirectiveTree) (r : List Placed) → Means a (equals own q) ts v r → (us : List Placed) × Equated own ts us × Means a q us v r
+  pub equals_sound : (own : Bool) (q : Rule a_directive) (ts : List Placed) (v : DirectiveTree) (r : List Placed) → Means a (equals own q) ts v r → (us : List Placed) × Equated own ts us × Means a q us v r
   equals_sound true q ts v r h = (ts, equated_own, h)
   equals_sound false q ts v r h = let (us, m, k) = expect_sound a q v r becomes_mark ts h in (us, equated_case m, k)
 
@@ -103,7 +103,7 @@ module _ (a : Bool) where
   constructor_complete ts v r (constructor_sorts {ss = ss} h) = (ss, r, image h, wholly)
 
   -- constructors up to a bracket
-  abbrev ListOn : Pos → Header → List Constructor → List Placed → DirectiveTree → List Placed → Type 0
+  abbrev pub ListOn : Pos → Header → List Constructor → List Placed → DirectiveTree → List Placed → Type 0
   ListOn p h cs ts v r = Image (λ ys. directive_at p (datatype_is h.0 h.1 (put cs ys))) (λ ys. SpellsConstructorList ts ys r) v
 
   list_end_case : (p : Pos) (h : Header) (cs : List Constructor) (z : Pos) (ts : List Placed) (v : DirectiveTree) (r : List Placed) → Whole (directive_at p (datatype_is h.0 h.1 (put cs []))) ts v r → ListOn p h cs (at z Close ∷ ts) v r
@@ -127,7 +127,7 @@ module _ (a : Bool) where
   constructor_list_complete p h cs ts v r (image (constructor_list_more {mid = mid} {c = c} k m)) = list_next p h cs c ts mid v r k (image m)
 
   -- constructors with bars
-  abbrev Alternatives : Pos → Header → List Constructor → List Placed → DirectiveTree → List Placed → Type 0
+  abbrev pub Alternatives : Pos → Header → List Constructor → List Placed → DirectiveTree → List Placed → Type 0
   Alternatives p h cs ts v r = Image (λ ys. directive_at p (datatype_is h.0 h.1 (put cs ys))) (λ ys. SpellsAlternatives ts ys r) v
 
   last_case : (p : Pos) (h : Header) (cs : List Constructor) (c : Constructor) (ts mid : List Placed) (v : DirectiveTree) (r : List Placed) → SpellsConstructor ts c mid → starts is_bar mid ≡ false → Whole (directive_at p (datatype_is h.0 h.1 (put (c ∷ cs) []))) mid v r → Alternatives p h cs ts v r
@@ -141,7 +141,7 @@ module _ (a : Bool) where
   after_sound p h cs c ts (at b Bar ∷ us) v r k m = more_case p h cs c ts b us v r k m
   after_sound p h cs c ts (at b t ∷ us) v r k m = last_case p h cs c ts (at b t ∷ us) v r k refl m
 
-  alternative_sound : (p : Pos) (h : Header) (cs : List Constructor) (ts : List Placed) (v : DirectiveTree) (r : List Placed) → Means a (alternative p h cs) ts v r → Alternatives p h cs ts v r
+  pub alternative_sound : (p : Pos) (h : Header) (cs : List Constructor) (ts : List Placed) (v : DirectiveTree) (r : List Placed) → Means a (alternative p h cs) ts v r → Alternatives p h cs ts v r
   alternative_sound p h cs ts v r (c, mid, k, m) = after_sound p h cs c ts mid v r k m
 
   bar_case : (p : Pos) (h : Header) (cs : List Constructor) (b : Pos) (ts : List Placed) (v : DirectiveTree) (r : List Placed) → Alternatives p h cs ts v r → AlternativesOn p h cs (at b Bar ∷ ts) v r
@@ -157,26 +157,26 @@ module _ (a : Bool) where
   no_bar p h cs (at b Bar ∷ ts) e = cc
   no_bar p h cs (at b t ∷ ts) e = wholly
 
-  alternative_complete : (p : Pos) (h : Header) (cs : List Constructor) (ts : List Placed) (more : List Constructor) (r : List Placed) → SpellsAlternatives ts more r → Means a (alternative p h cs) ts (directive_at p (datatype_is h.0 h.1 (put cs more))) r
+  pub alternative_complete : (p : Pos) (h : Header) (cs : List Constructor) (ts : List Placed) (more : List Constructor) (r : List Placed) → SpellsAlternatives ts more r → Means a (alternative p h cs) ts (directive_at p (datatype_is h.0 h.1 (put cs more))) r
   alternative_complete p h cs ts more r (alternatives_last {c = c} k e) = (c, r, k, no_bar p h (c ∷ cs) r e)
   alternative_complete p h cs ts more r (alternatives_more {b = b} {mid = mid} {c = c} k m) = (c, at b Bar ∷ mid, k, alternatives_on m)
 
   pub alternatives_complete : (p : Pos) (h : Header) (cs : List Constructor) (ts : List Placed) (v : DirectiveTree) (r : List Placed) → AlternativesOn p h cs ts v r → Means a (token (alternatives_bar p h cs)) ts v r
   alternatives_complete p h cs ts v r (alternatives_on {more = more} {ts = us} m) = alternative_complete p h cs us more r m
 
-  finish_complete : (own : Bool) (d : DirectiveTree) (ts : List Placed) (v : DirectiveTree) (r : List Placed) → Finished own d ts v r → Means a (finish own d) ts v r
+  pub finish_complete : (own : Bool) (d : DirectiveTree) (ts : List Placed) (v : DirectiveTree) (r : List Placed) → Finished own d ts v r → Means a (finish own d) ts v r
   finish_complete own d ts v r finished_bare = wholly
   finish_complete own d ts v r finished_own = wholly
 
-  equals_complete : (own : Bool) (q : Rule a_directive) (ts us : List Placed) (v : DirectiveTree) (r : List Placed) → Equated own ts us → Means a q us v r → Means a (equals own q) ts v r
+  pub equals_complete : (own : Bool) (q : Rule a_directive) (ts us : List Placed) (v : DirectiveTree) (r : List Placed) → Equated own ts us → Means a q us v r → Means a (equals own q) ts v r
   equals_complete own q ts us v r equated_bare h = h
   equals_complete own q ts us v r equated_own h = h
 
   -- the sorts of a `declare`, and its end
-  data TypeOn (own : Bool) (p : Pos) (ns : List Sym) (vs : Option (List Sym)) : List Placed → DirectiveTree → List Placed → Type 0 where
+  pub data TypeOn (own : Bool) (p : Pos) (ns : List Sym) (vs : Option (List Sym)) : List Placed → DirectiveTree → List Placed → Type 0 where
     type_on : {ts mid r : List Placed} {ss : List SortText} {s : SortText} {v : DirectiveTree} → SpellsType own ts ss s mid → Finished own (directive_at p (declare_is (put ns []) vs ss s)) mid v r → TypeOn own p ns vs ts v r
 
-  data SignatureOn (own : Bool) (p : Pos) (ns : List Sym) : List Placed → DirectiveTree → List Placed → Type 0 where
+  pub data SignatureOn (own : Bool) (p : Pos) (ns : List Sym) : List Placed → DirectiveTree → List Placed → Type 0 where
     signature_on : {ts mid r : List Placed} {vs : Option (List Sym)} {ss : List SortText} {s : SortText} {v : DirectiveTree} → SpellsSignature own ts vs ss s mid → Finished own (directive_at p (declare_is (put ns []) vs ss s)) mid v r → SignatureOn own p ns ts v r
 
   sort_case : (own : Bool) (p : Pos) (ns : List Sym) (vs : Option (List Sym)) (s : SortText) (ts mid : List Placed) (v : DirectiveTree) (r : List Placed) → SpellsSort ts s mid → Means a (declared_as own p ns vs [] s) mid v r → TypeOn own p ns vs ts v r
@@ -236,7 +236,7 @@ module _ (a : Bool) where
   signature_inside_sound own p ns o (at q Close ∷ ts) v r h = no_params own p ns o q (type_sound own p ns (Some []) ts v r h)
   signature_inside_sound own p ns o (at q t ∷ ts) v r h = plain_case own p ns (type_inside_sound own p ns None o (at q t ∷ ts) v r h)
 
-  signature_sound : (own : Bool) (p : Pos) (ns : List Sym) (ts : List Placed) (v : DirectiveTree) (r : List Placed) → Means a (token (signature_rule own p ns)) ts v r → SignatureOn own p ns ts v r
+  pub signature_sound : (own : Bool) (p : Pos) (ns : List Sym) (ts : List Placed) (v : DirectiveTree) (r : List Placed) → Means a (token (signature_rule own p ns)) ts v r → SignatureOn own p ns ts v r
   signature_sound own p ns [] v r h = absurd h
   signature_sound own p ns (at o Open ∷ ts) v r h = signature_inside_sound own p ns o ts v r h
   signature_sound own p ns (at o t ∷ ts) v r h = plain_case own p ns (type_sound own p ns None (at o t ∷ ts) v r h)
@@ -273,7 +273,7 @@ module _ (a : Bool) where
   with_params own p ns vs o ts mid v r vars_end h = h
   with_params own p ns vs o ts mid v r (vars_more e k) h = (vs, mid, image k, h)
 
-  signature_complete : (own : Bool) (p : Pos) (ns : List Sym) (vs : Option (List Sym)) (ss : List SortText) (s : SortText) (ts mid : List Placed) (v : DirectiveTree) (r : List Placed) → SpellsSignature own ts vs ss s mid → Finished own (directive_at p (declare_is (put ns []) vs ss s)) mid v r → Means a (token (signature_rule own p ns)) ts v r
+  pub signature_complete : (own : Bool) (p : Pos) (ns : List Sym) (vs : Option (List Sym)) (ss : List SortText) (s : SortText) (ts mid : List Placed) (v : DirectiveTree) (r : List Placed) → SpellsSignature own ts vs ss s mid → Finished own (directive_at p (declare_is (put ns []) vs ss s)) mid v r → Means a (token (signature_rule own p ns)) ts v r
   signature_complete own p ns vs ss s ts mid v r (signature_plain t) f = bare_signature own p ns ss s ts mid v r t (type_complete own p ns None ss s ts mid v r t f)
   signature_complete own p ns vs ss s ts mid v r (signature_params {o = o} {ts = us} {mid = m} {vs = ws} k t) f = with_params own p ns ws o us m v r k (type_complete own p ns (Some ws) ss s m mid v r t f)
 

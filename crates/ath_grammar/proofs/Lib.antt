@@ -1,3 +1,5 @@
+pub mod Agrees
+pub mod DirectiveAgrees
 pub mod DirectiveParts
 pub mod Expects
 pub mod Laws

@@ -1,0 +1,12 @@
+use Rattle.std.proofs.Common.{subst, sym}
+use Rattle.ath_syntax.specs.Nodes.{Nodes}
+use Rattle.ath_syntax.specs.Fits.{PatternFits}
+use Rattle.ath_syntax.proofs.Growth.{Grows-pattern}
+use Rattle.ath_syntax.proofs.Sound.{IsSound-pattern}
+use Rattle.ath_syntax.proofs.phrases.Phrases.add_pat.Goals as goal
+
+pub invariant_of-self-2 : goal.invariant_of-self-2
+invariant_of-self-2 c = rw c.in_ok-push.ensures.items (IsSound-pattern _ _ c.self.invariant (subst (λ (s : Nodes). PatternFits s.patterns c.args.node) (sym c.self.view_is) c.requires))
+
+pub returns-clause-kept : goal.returns-clause-kept
+returns-clause-kept c = rw (c.in_ok-push.ensures.items, ← c.self.view_is) (Grows-pattern _ _)

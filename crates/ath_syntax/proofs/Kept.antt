@@ -23,7 +23,7 @@ module _ (old new : List PatNode) (more : (i : ℕ) (n : PatNode) → slice_get 
     pub keep_pattern : (i : PatId) (t : Pattern) → IsPattern old i t → IsPattern new i t
     keep_pattern i t (is_pattern g h) = is_pattern (more _ _ g) (keep_pattern_node _ t h)
 
-    keep_pattern_node : (n : PatNode) (t : Pattern) → IsPatternNode old n t → IsPatternNode new n t
+    pub keep_pattern_node : (n : PatNode) (t : Pattern) → IsPatternNode old n t → IsPatternNode new n t
     keep_pattern_node n t pattern_is_any = pattern_is_any
     keep_pattern_node n t pattern_is_name = pattern_is_name
     keep_pattern_node n t pattern_is_string = pattern_is_string
@@ -35,6 +35,9 @@ module _ (old new : List PatNode) (more : (i : ℕ) (n : PatNode) → slice_get 
     pub keep_patterns : (is : List PatId) (ts : Patterns) → ArePatterns old is ts → ArePatterns new is ts
     keep_patterns is ts patterns_none = patterns_none
     keep_patterns is ts (patterns_more a b) = patterns_more (keep_pattern _ _ a) (keep_patterns _ _ b)
+
+pub keep_pattern_number : (old new : Nodes) → Grows old new → (i : PatId) (t : Pattern) → IsPattern old.patterns i t → IsPattern new.patterns i t
+keep_pattern_number old new g = keep_pattern old.patterns new.patterns g.pattern
 
 module _ (old new : Nodes) (g : Grows old new) where
   mutual

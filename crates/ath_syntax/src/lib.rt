@@ -3,6 +3,7 @@
 #![tactic(auto)]
 
 pub mod directive;
+pub mod laws;
 pub mod node;
 pub mod phrases;
 pub mod place;

@@ -3,6 +3,8 @@
 ghost use Rattle.std.specs.Prelude.{◌≡◌, ◌<◌, [], Some, length, slice_get, take, IfOk, OnErr};
 ghost use Rattle.ath_syntax.specs.Fits.{Fits, PatternFits, before};
 ghost use Rattle.ath_syntax.specs.Nodes.{Grows, with_phrase, with_pattern};
+ghost use Rattle.ath_syntax.specs.Stands.{IsForm, IsPhrase, IsPattern, IsPatternNode};
+ghost use Rattle.ath_syntax.specs.Tree.{Phrase, Pattern};
 
 use crate::node::{Node, PatId, PatNode, PhraseId};
 use std::alloc::{AllocError, Global};
@@ -47,6 +49,7 @@ impl Phrases {
         requires { Fits self.old node }
         ensures added { IfOk result (λ _. self.new ≡ with_phrase self.old node) }
         ensures number { IfOk result (λ p. p.0 ≡ length self.old.phrases) }
+        ensures stands { IfOk result (λ p. (t : Phrase) → IsForm self.old node.pos node.form t → IsPhrase self.new p t) }
         ensures kept { Grows self.old self.new }
         ensures err { OnErr result (self.new ≡ self.old) }
     {
@@ -60,6 +63,7 @@ impl Phrases {
         requires { PatternFits self.old.patterns node }
         ensures added { IfOk result (λ _. self.new ≡ with_pattern self.old node) }
         ensures number { IfOk result (λ p. p.0 ≡ length self.old.patterns) }
+        ensures stands { IfOk result (λ p. (t : Pattern) → IsPatternNode self.old.patterns node t → IsPattern self.new.patterns p t) }
         ensures kept { Grows self.old self.new }
         ensures err { OnErr result (self.new ≡ self.old) }
     {
@@ -72,6 +76,7 @@ impl Phrases {
     pub fn node(&self, phrase: PhraseId) -> &Node
         requires { phrase.0 < length self.now.phrases }
         ensures node { slice_get self.now.phrases phrase.0 ≡ Some result.now }
+        ensures stands { (t : Phrase) × IsPhrase self.now phrase t }
         ensures fits { Fits (before self.now phrase.0) result.now }
     {
         &self.phrases[phrase.0]
@@ -81,6 +86,7 @@ impl Phrases {
     pub fn pat(&self, pattern: PatId) -> &PatNode
         requires { pattern.0 < length self.now.patterns }
         ensures node { slice_get self.now.patterns pattern.0 ≡ Some result.now }
+        ensures stands { (t : Pattern) × IsPattern self.now.patterns pattern t }
         ensures fits { PatternFits (take pattern.0 self.now.patterns) result.now }
     {
         &self.patterns[pattern.0]

@@ -104,11 +104,11 @@ module _ (old new : Nodes) (g : Grows old new) where
   pub keep_directive : (d : Directive) (t : DirectiveTree) → IsDirective old d t → IsDirective new d t
   keep_directive d t (is_directive a) = is_directive (keep_statement _ _ a)
 
-  bound_kept : (d : Bool) (i : PhraseId) → IsBound old d i → IsBound new d i
+  pub bound_kept : (d : Bool) (i : PhraseId) → IsBound old d i → IsBound new d i
   bound_kept true i h = part_kept old new g i h
   bound_kept false i h = kind_kept old new g false i h
 
-  clauses_kept : (d : Bool) (cs : List (PatId × PhraseId)) → ClausesFit old d cs → ClausesFit new d cs
+  pub clauses_kept : (d : Bool) (cs : List (PatId × PhraseId)) → ClausesFit old d cs → ClausesFit new d cs
   clauses_kept d cs h = record {
     some = h.some;
     kind = All-weaker (λ c. IsKind old d c.1) (λ c. IsKind new d c.1) (λ c k. kind_kept old new g d c.1 k) cs h.kind;
@@ -117,11 +117,11 @@ module _ (old new : Nodes) (g : Grows old new) where
     size = h.size;
   }
 
-  otherwise_kept : (d : Bool) (o : Option PhraseId) → OtherwiseFits old d o → OtherwiseFits new d o
+  pub otherwise_kept : (d : Bool) (o : Option PhraseId) → OtherwiseFits old d o → OtherwiseFits new d o
   otherwise_kept d None h = tt
   otherwise_kept d (Some i) h = kind_kept old new g d i h
 
-  kinds_kept : (d : Bool) (is : List PhraseId) → All (IsKind old d) is → All (IsKind new d) is
+  pub kinds_kept : (d : Bool) (is : List PhraseId) → All (IsKind old d) is → All (IsKind new d) is
   kinds_kept d is h = All-weaker (IsKind old d) (IsKind new d) (λ i k. kind_kept old new g d i k) is h
 
   pub form_kept : (d : Bool) (f : Form) → FitsForm old d f → FitsForm new d f

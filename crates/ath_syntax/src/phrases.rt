@@ -1,7 +1,7 @@
 // Phrases and patterns as numbered nodes.
 
 ghost use Rattle.std.specs.Prelude.{◌≡◌, ◌<◌, [], Some, length, slice_get, take, IfOk, OnErr};
-ghost use Rattle.ath_syntax.specs.Fits.{Fits, PatternFits, before};
+ghost use Rattle.ath_syntax.specs.Fits.{Fits, IsKind, PatternFits, before};
 ghost use Rattle.ath_syntax.specs.Nodes.{Grows, with_phrase, with_pattern};
 ghost use Rattle.ath_syntax.specs.Stands.{IsForm, IsPhrase, IsPattern, IsPatternNode};
 ghost use Rattle.ath_syntax.specs.Tree.{Phrase, Pattern};
@@ -49,6 +49,7 @@ impl Phrases {
         requires { Fits self.old node }
         ensures added { IfOk result (λ _. self.new ≡ with_phrase self.old node) }
         ensures number { IfOk result (λ p. p.0 ≡ length self.old.phrases) }
+        ensures kind { IfOk result (λ p. IsKind self.new node.deduction p) }
         ensures stands { IfOk result (λ p. (t : Phrase) → IsForm self.old node.pos node.form t → IsPhrase self.new p t) }
         ensures kept { Grows self.old self.new }
         ensures err { OnErr result (self.new ≡ self.old) }
@@ -90,5 +91,47 @@ impl Phrases {
         ensures fits { PatternFits (take pattern.0 self.now.patterns) result.now }
     {
         &self.patterns[pattern.0]
+    }
+}
+
+#[cfg(test)]
+mod tests {
+    use super::*;
+    use crate::node::Form;
+    use crate::place::Pos;
+    use ath_sorts::Sym;
+    use sqlite_items::Items;
+    use std::test::Fail;
+
+    // `(!f)`, and the patterns `[_]` and `(some-term x)`
+    #[test]
+    fn nodes_have_numbers(rt: HostRuntime) -> Result<(), Fail> {
+        let mut phrases = Phrases::new(rt.alloc());
+        let name = phrases.add(Node {
+            pos: Pos {
+                file: 0,
+                line: 1,
+                col: 3,
+            },
+            deduction: false,
+            form: Form::Name(Sym(22)),
+        })?;
+        let call = phrases.add(Node {
+            pos: Pos {
+                file: 0,
+                line: 1,
+                col: 1,
+            },
+            deduction: true,
+            form: Form::Call(name, Items::new(rt.alloc())),
+        })?;
+        let any = phrases.add_pat(PatNode::Any)?;
+        let list = phrases.add_pat(PatNode::List(Items::from_slice(rt.alloc(), &[any])?))?;
+        let some = phrases.add_pat(PatNode::Some(Sym(18), Sym(23)))?;
+        assert_eq!(rt; (name, call), (PhraseId(0), PhraseId(1)));
+        assert_eq!(rt; (any, list, some), (PatId(0), PatId(1), PatId(2)));
+        assert!(rt; matches!(phrases.node(call).form, Form::Call(f, _) if f == name));
+        assert!(rt; matches!(phrases.pat(some), PatNode::Some(_, Sym(23))));
+        Ok(())
     }
 }

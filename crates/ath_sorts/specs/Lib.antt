@@ -1,2 +1,10 @@
 pub mod Sorts
+pub mod Limits
 pub mod Signature
+pub mod Kept
+pub mod Declaring
+pub mod Substitutions
+pub mod Unifiers
+pub mod Instances
+pub mod Matching
+pub mod Laws

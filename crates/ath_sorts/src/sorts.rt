@@ -1,7 +1,7 @@
 // Sorts as trees, their copies, and when two are one.
 
 ghost use Rattle.std.specs.Prelude.{◌≡◌, IfOk, IsTrue, ◌↔◌};
-ghost use Rattle.ath_sorts.specs.Sorts.{same_svar};
+ghost use Rattle.ath_sorts.specs.Sorts.{same_svar, occurs};
 
 use sqlite_items::Items;
 use std::alloc::{AllocError, Global};
@@ -76,5 +76,22 @@ pub fn is_same(a: &Sort, b: &Sort) -> bool
             true
         }
         _ => false,
+    }
+}
+
+/// Whether the variable occurs in the sort.
+pub fn occurs_in(v: SVar, sort: &Sort) -> bool
+    ensures { result ≡ occurs v sort.now }
+{
+    match sort {
+        Sort::Var(w) => v.is_same(*w),
+        Sort::Con(_, args) => {
+            for arg in args.as_slice() {
+                if occurs_in(v, arg) {
+                    return true;
+                }
+            }
+            false
+        }
     }
 }

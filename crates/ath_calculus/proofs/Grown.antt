@@ -1,0 +1,87 @@
+-- What grows with a signature.
+use Rattle.std.proofs.Common.{◌≡◌, ℕ, suc, Bool, true, false, ◌&&◌, ◌==◌, List, [], ◌∷◌, ◌++◌, length, map, Option, Some, None, refl, sym, ◌∙◌, ap}
+use Rattle.std.specs.List.{list_all, AllByRecursion}
+use Rattle.ath_sorts.specs.declared.sorts.Sym.{Sym}
+use Rattle.ath_sorts.specs.declared.sorts.SVar.{SVar}
+use Rattle.ath_sorts.specs.declared.sorts.Sort.{Sort, Var, Con}
+use Rattle.ath_sorts.specs.declared.sorts.Sort.TheOpen as one
+use Rattle.ath_sorts.specs.declared.sorts.Sort.TheVariants.{rolls-Var, rolls-Con}
+use Rattle.ath_sorts.specs.declared.sorts.Sort.TheFolds.{fold-roll-Sort}
+use Rattle.ath_sorts.proofs.SortLaws.{sort_induction}
+use Rattle.ath_sorts.specs.declared.signature.Symbol.{Symbol}
+use Rattle.ath_sorts.specs.Signature.{Signature, arity_of, symbol_of}
+use Rattle.ath_terms.specs.Tree.{Term, Terms, var, app, none, more, Sent, atom, equal, negated, joined, bound}
+use Rattle.ath_terms.specs.WellSorted.{has_arity, valid_step, is_valid_sort, HasSort, var_has, app_has, HaveSorts, none_has, more_has, IsWellSorted, AreWellSorted}
+use Rattle.ath_calculus.specs.Derives.{Derives, axiom_of, if_elim, IsIn}
+use Rattle.ath_calculus.specs.Laws.{Extends, AreIn}
+
+both : (a b : Bool) → a && b ≡ true → (a ≡ true) × (b ≡ true)
+both true b e = (refl, e)
+both false b e = absurd (cc)
+
+and_true : (a b : Bool) → a ≡ true → b ≡ true → a && b ≡ true
+and_true a b e f = rw (e, f) refl
+
+length-map : {A B : Type 0} (f : A → B) (xs : List A) → length (map f xs) ≡ length xs
+length-map f [] = refl
+length-map f (x ∷ xs) = ap suc (length-map f xs)
+
+valid-var : (sig : Signature) (v : SVar) → is_valid_sort sig (Var v) ≡ true
+valid-var sig v = ap (is_valid_sort sig) (sym (rolls-Var v)) ∙ fold-roll-Sort Bool (valid_step sig) (one.Var v)
+
+valid-con : (sig : Signature) (c : Sym) (args : List Sort) → is_valid_sort sig (Con c args) ≡ has_arity (arity_of sig c) (length args) && list_all (λ b. b) (map (is_valid_sort sig) args)
+valid-con sig c args = ap (is_valid_sort sig) (sym (rolls-Con c args)) ∙ fold-roll-Sort Bool (valid_step sig) (one.Con c args) ∙ ap (λ (n : ℕ). has_arity (arity_of sig c) n && list_all (λ b. b) (map (is_valid_sort sig) args)) (length-map (is_valid_sort sig) args)
+
+module _ (old new : Signature) (grown : Extends old new) where
+  arity_grown : (c : Sym) (n : ℕ) → has_arity (arity_of old c) n ≡ true → has_arity (arity_of new c) n ≡ true
+  arity_grown c n h = go (arity_of old c) refl h
+    where
+      go : (o : Option ℕ) → arity_of old c ≡ o → has_arity o n ≡ true → has_arity (arity_of new c) n ≡ true
+      go (Some k) e f = rw (grown.sorts c k e) f
+      go None e f = absurd (cc)
+
+  abbrev Kept : Sort → Type 0
+  Kept s = is_valid_sort old s ≡ true → is_valid_sort new s ≡ true
+
+  all_kept : (args : List Sort) → AllByRecursion Kept args → list_all (λ b. b) (map (is_valid_sort old) args) ≡ true → list_all (λ b. b) (map (is_valid_sort new) args) ≡ true
+  all_kept [] h e = refl
+  all_kept (s ∷ ss) h e = let p = both (is_valid_sort old s) _ e in and_true (is_valid_sort new s) _ (h.0 p.0) (all_kept ss h.1 p.1)
+
+  sort_kept : (s : Sort) → Kept s
+  sort_kept = sort_induction Kept
+      (λ v e. valid-var new v)
+      (λ c args h e.
+      let p = both (has_arity (arity_of old c) (length args)) _ (sym (valid-con old c args) ∙ e) in
+      valid-con new c args ∙ and_true _ _ (arity_grown c (length args) p.0) (all_kept args h p.1))
+
+  sorts_kept : (ss : List Sort) → list_all (is_valid_sort old) ss ≡ true → list_all (is_valid_sort new) ss ≡ true
+  sorts_kept [] e = refl
+  sorts_kept (s ∷ ss) e = let p = both (is_valid_sort old s) _ e in and_true (is_valid_sort new s) _ (sort_kept s p.0) (sorts_kept ss p.1)
+
+  mutual
+    term_kept : {t : Term} {s : Sort} → HasSort old t s → HasSort new t s
+    term_kept (var_has {v} e f) = var_has (sort_kept v.sort e) f
+    term_kept (app_has {f} {sorts} {args} d e l v ts r) = app_has d (grown.symbols f d e) l (sorts_kept sorts v) (terms_kept ts) r
+
+    terms_kept : {ts : Terms} {ss : List Sort} → HaveSorts old ts ss → HaveSorts new ts ss
+    terms_kept none_has = none_has
+    terms_kept (more_has t ts) = more_has (term_kept t) (terms_kept ts)
+
+  pub sent_kept : (p : Sent) → IsWellSorted old p → IsWellSorted new p
+  sent_kept (atom t) h = term_kept h
+  sent_kept (equal s t) h = (h.0, (term_kept h.1.0, term_kept h.1.1))
+  sent_kept (negated p) h = sent_kept p h
+  sent_kept (joined c p q) h = (sent_kept p h.0, sent_kept q h.1)
+  sent_kept (bound q v p) h = (sort_kept v.sort h.0, sent_kept p h.1)
+
+  pub sents_kept : (ps : List Sent) → AreWellSorted old ps → AreWellSorted new ps
+  sents_kept [] h = tt
+  sents_kept (p ∷ ps) h = (sent_kept p h.0, sents_kept ps h.1)
+
+  pub derivation_kept : (fewer others : List Sent) → AreIn fewer others → {hyps : List Sent} {p : Sent} → Derives old fewer hyps p → Derives new others hyps p
+  derivation_kept fewer others among (axiom_of {hyps} {p} h w i) = axiom_of (sents_kept hyps h) (sent_kept p w) (among p i)
+  derivation_kept fewer others among (if_elim d e) = if_elim (derivation_kept fewer others among d) (derivation_kept fewer others among e)
+
+pub well_sorted : {sig : Signature} {asserted hyps : List Sent} {p : Sent} → Derives sig asserted hyps p → IsWellSorted sig p
+well_sorted (axiom_of h w i) = w
+well_sorted (if_elim d e) = (well_sorted d).1

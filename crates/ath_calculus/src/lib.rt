@@ -1,0 +1,4 @@
+//! Sorted natural deduction: which sentences have a derivation.
+#![tactic(auto)]
+
+pub mod laws;

@@ -1,0 +1,5 @@
+pub mod Events
+pub mod Eval
+pub mod Lines
+pub mod Report
+pub mod Stands

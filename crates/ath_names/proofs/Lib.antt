@@ -1,0 +1,3 @@
+pub mod NamesLaws
+mod Positions
+mod Inserts

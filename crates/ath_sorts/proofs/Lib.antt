@@ -1,0 +1,5 @@
+pub mod SignatureLaws
+pub mod SortLaws
+pub mod SubstitutionLaws
+pub mod UnifierLaws
+pub mod MatchingLaws

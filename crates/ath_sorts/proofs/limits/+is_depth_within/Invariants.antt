@@ -1,0 +1,6 @@
+use Rattle.std.proofs.Common.{◌≡◌, ◌-◌, max, drop, map}
+use Rattle.ath_sorts.specs.Sorts.{depth_of, greatest}
+use Rattle.ath_sorts.proofs.limits.+is_depth_within.Given as goal
+
+abbrev pub invariant-loop-arg : goal.invariant-loop-arg
+invariant-loop-arg l = max (l.most - 1) (greatest (map depth_of l.arg-items)) ≡ max (l.most - 1) (greatest (map depth_of (drop l.arg-index l.arg-items)))

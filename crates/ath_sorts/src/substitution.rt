@@ -1,0 +1,156 @@
+// Sort substitutions.
+
+ghost use Rattle.std.specs.Prelude.{◌≡◌, ◌++◌, ◌∷◌, [], OnOk, ◌-◌, ◌≤◌, IsTrue, ◌↔◌, SomeIff, IfOk, map};
+ghost use Rattle.std.specs.Option.{option_copied};
+ghost use Rattle.ath_sorts.specs.Sorts.{image, apply_to, size_of, depth_of};
+ghost use Rattle.ath_sorts.specs.Limits.{is_small};
+ghost use Rattle.ath_sorts.specs.Substitutions.{MatchApplied, entry_of};
+ghost use Rattle.ath_sorts.specs.declared.substitution.UnifyError.TheVariants.{Memory};
+
+use crate::limits::{MOST_DEPTH, MOST_NODES, is_depth_within, nodes_left};
+use crate::sorts::{SVar, Sort, copied};
+use sqlite_items::Items;
+use std::alloc::{AllocError, Global};
+use std::marker::Model;
+use thiserror::Error;
+
+/// Why sorts aren't unified, or a substitution isn't applied.
+#[derive(Debug, Drop, Error)]
+pub enum UnifyError {
+    /// The first place such that the pairs up to it have no unifier.
+    #[error("the sorts of pair {0} can't be made equal")]
+    Clash(usize),
+    #[error("a sort is above the limits")]
+    SortTooLarge,
+    #[error("out of memory")]
+    Memory,
+}
+
+impl From<AllocError> for UnifyError {
+    ghost from_gives = { λ _ e. e ≡ Memory };
+
+    fn from(_error: AllocError) -> UnifyError {
+        UnifyError::Memory
+    }
+}
+
+/// A finite map from sort variables to sorts. A variable that isn't in it stays as it is.
+#[derive(Debug, Drop)]
+pub struct SortSubst {
+    entries: Vec<(SVar, Sort)>,
+}
+
+impl Model for SortSubst {
+    ghost use Rattle.std.specs.Prelude.{List};
+    ghost use Rattle.ath_sorts.specs.declared.sorts.SVar.{SVar};
+    ghost use Rattle.ath_sorts.specs.declared.sorts.Sort.{Sort};
+    ghost use Rattle.ath_sorts.specs.contracts.sorts.Sort as sort;
+    ghost use Rattle.std.specs.Coded.{codes};
+
+    ghost Value = { List (SVar × Sort) };
+
+    ghost coded = { Prim.hlevel (codes, sort.the_row.coded) };
+
+    ghost view = { λ s. s.entries.items };
+}
+
+impl SortSubst {
+    /// The map without entries.
+    pub(crate) fn new(alloc: Global) -> SortSubst
+        ensures { result ≡ [] }
+    {
+        SortSubst {
+            entries: Vec::new(alloc),
+        }
+    }
+
+    /// Adds an entry behind those that are there.
+    pub(crate) fn push(&mut self, v: SVar, sort: Sort) -> Result<(), AllocError>
+        ensures { OnOk result (self.new ≡ self.old ++ (v, sort) ∷ []) }
+    {
+        self.entries.push((v, sort))?;
+        Ok(())
+    }
+
+    /// The sort that the variable is mapped to, where it is in the map.
+    pub fn get(&self, v: SVar) -> Option<&Sort>
+        ensures { option_copied result ≡ entry_of self.now v }
+    {
+        for entry in self.entries.as_slice() {
+            if entry.0.is_same(v) {
+                return Some(&entry.1);
+            }
+        }
+        None
+    }
+
+    /// The sort with each variable replaced by what it is mapped to.
+    pub fn apply(&self, alloc: Global, sort: &Sort) -> Result<Sort, UnifyError>
+        ensures { MatchApplied (apply_to (image self.now) sort.now) result }
+    {
+        if self.nodes_left(sort, MOST_NODES).is_none() || !self.is_depth_within(sort, MOST_DEPTH) {
+            return Err(UnifyError::SortTooLarge);
+        }
+        let applied = self.applied(alloc, sort)?;
+        Ok(applied)
+    }
+
+    /// What a budget of nodes leaves after those of the sort once the map is applied.
+    fn nodes_left(&self, sort: &Sort, budget: usize) -> Option<usize>
+        ensures { SomeIff result (size_of (apply_to (image self.now) sort.now) ≤ budget) (budget - size_of (apply_to (image self.now) sort.now)) }
+    {
+        match sort {
+            Sort::Var(v) => match self.get(*v) {
+                Some(image) => nodes_left(image, budget),
+                None => budget.checked_sub(1),
+            },
+            Sort::Con(_, args) => {
+                let mut left = budget.checked_sub(1)?;
+                for arg in args.as_slice() {
+                    left = self.nodes_left(arg, left)?;
+                }
+                Some(left)
+            }
+        }
+    }
+
+    fn is_depth_within(&self, sort: &Sort, most: usize) -> bool
+        ensures { IsTrue result ↔ (depth_of (apply_to (image self.now) sort.now) ≤ most) }
+    {
+        match sort {
+            Sort::Var(v) => match self.get(*v) {
+                Some(image) => is_depth_within(image, most),
+                None => most > 0,
+            },
+            Sort::Con(_, args) => {
+                if most == 0 {
+                    return false;
+                }
+                for arg in args.as_slice() {
+                    if !self.is_depth_within(arg, most - 1) {
+                        return false;
+                    }
+                }
+                true
+            }
+        }
+    }
+
+    fn applied(&self, alloc: Global, sort: &Sort) -> Result<Sort, AllocError>
+        ensures { IfOk result (λ r. r ≡ apply_to (image self.now) sort.now) }
+    {
+        match sort {
+            Sort::Var(v) => match self.get(*v) {
+                Some(image) => copied(alloc, image),
+                None => Ok(Sort::Var(*v)),
+            },
+            Sort::Con(name, args) => {
+                let mut images = Items::new(alloc);
+                for arg in args.as_slice() {
+                    images.push(self.applied(alloc, arg)?)?;
+                }
+                Ok(Sort::Con(*name, images))
+            }
+        }
+    }
+}

@@ -1,0 +1,10 @@
+pub mod Bytes
+pub mod Quoted
+pub mod Spelling
+pub mod Cut
+pub mod Cutting
+pub mod Mark
+pub mod Scan
+pub mod Strings
+pub mod Next
+pub mod Laws

@@ -1,0 +1,14 @@
+//! Tokens of a text: the cut into longest tokens, with the first fault.
+#![tactic(auto)]
+
+mod bytes;
+pub mod laws;
+mod lexeme;
+mod mark;
+mod quoted;
+mod tokens;
+
+pub use tokens::{LexError, LexKind, Token, Tokens};
+
+#[cfg(test)]
+mod tests;

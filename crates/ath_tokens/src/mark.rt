@@ -1,0 +1,48 @@
+// Places in a text, found by counting line ends once.
+
+ghost use Rattle.std.specs.Prelude.{◌≡◌, ◌+◌, ◌≤◌, ◌<◌, length};
+ghost use Rattle.ath_tokens.specs.Cut.{place_of};
+ghost use Rattle.ath_tokens.specs.Mark.{IsMark};
+
+use ath_syntax::Pos;
+
+/// A byte of a text, the number of line ends before it, and the byte at which its line begins.
+#[derive(Clone, Copy, Debug)]
+pub(crate) struct Mark {
+    pub(crate) at: usize,
+    pub(crate) lines: u64,
+    pub(crate) line_start: usize,
+}
+
+/// The mark of a later byte.
+pub(crate) fn moved(text: &[u8], from: Mark, to: usize) -> Mark
+    requires mark { IsMark text.now from }
+    requires later { from.at ≤ to }
+    requires within { to ≤ length text.now }
+    ensures mark { IsMark text.now result }
+    ensures at { result.at ≡ to }
+{
+    let mut mark = from;
+    while mark.at < to {
+        let byte = text[mark.at];
+        mark.at += 1;
+        if byte == b'\n' {
+            mark.lines += 1;
+            mark.line_start = mark.at;
+        }
+    }
+    mark
+}
+
+/// The place of a marked byte.
+pub(crate) fn place(text: &[u8], file: usize, mark: Mark) -> Pos
+    requires mark { IsMark text.now mark }
+    requires within { mark.at < length text.now }
+    ensures { result ≡ place_of file text.now mark.at }
+{
+    Pos {
+        file,
+        line: mark.lines + 1,
+        col: (mark.at - mark.line_start) as u64 + 1,
+    }
+}

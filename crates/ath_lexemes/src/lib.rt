@@ -2,6 +2,7 @@
 #![tactic(auto)]
 
 pub mod classify;
+pub mod laws;
 pub mod levels;
 pub mod reserved;
 

@@ -1,0 +1,11 @@
+pub mod DirectiveRules
+pub mod Directives
+pub mod Kinds
+pub mod Lists
+pub mod Machine
+pub mod PhraseRules
+pub mod Phrases
+pub mod Rules
+pub mod Small
+pub mod SmallRules
+pub mod Tokens

@@ -1,0 +1,6 @@
+pub mod Exists
+pub mod Growth
+pub mod Kept
+pub mod NodeLaws
+pub mod One
+pub mod Sound

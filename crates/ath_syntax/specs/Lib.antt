@@ -1,0 +1,5 @@
+pub mod Fits
+pub mod Nodes
+pub mod Size
+pub mod Stands
+pub mod Tree

@@ -3,6 +3,7 @@ pub mod DirectiveAgrees
 pub mod DirectiveParts
 pub mod Expects
 pub mod Laws
+pub mod Least
 pub mod Meaning
 pub mod PhraseComplete
 pub mod PhraseSound

@@ -69,13 +69,13 @@ ends_push {j} a f p n e g = let (us, x, more) = g e.1 in
 pub ends_token : {k : Kind} (a : Bool) (f : Placed → Rule k) (t : Placed) → Ends a (f t) → Ends a (token f)
 ends_token a f t (ts, v, means) = (t ∷ ts, v, means)
 
-module _ (a : Bool) (ready : IsReady a) where
+module _ (a : Bool) (least : (k : Kind) (m : Part k) → Ends a (goto m)) where
   pub ends : {k : Kind} (p : Rule k) → Solid a p → Ends a p
   ends (done v) s = ([], v, λ r h. wholly)
   ends refuse s = absurd s
   ends (token f) s = s.1
   ends (peek f q) s = s.1
-  ends (goto m) s = ready.least m
+  ends {k} (goto m) s = least k m
   ends (push f p) s = ends_push a f p s.0 (ends p s.1) (λ v. ends (f v) (s.2 v))
   ends (check b p) s = absurd s
   ends (deeper p) s = ends p s
@@ -156,7 +156,7 @@ module _ (a : Bool) (ready : IsReady a) (agrees : Agrees a) where
   finishes : {k : Kind} (ks : Stack k) (v : Value k) → Holds a ks → Finishes ks v
   unfolding Finishes
   finishes bottom v h = ([], v, wholly, refl)
-  finishes (frame {j = j} f ks) v h = let (ts, u, means) = ends a ready (f v) (h.1 v) in let (us, d, k, rest) = finishes ks u h.2 in
+  finishes (frame {j = j} f ks) v h = let (ts, u, means) = ends a (λ k m. ready.least m) (f v) (h.1 v) in let (us, d, k, rest) = finishes ks u h.2 in
       (ts ++ us, d, (u, us, means us rest, k), any_rests j h.0 (ts ++ us))
 
   pub state_ends : (st : Config) → Stands a st → (ts : List Placed) × (d : DirectiveTree) × Continues a st ts d []

@@ -47,10 +47,10 @@ is_new : (n : ℕ) (seen : List Sym) → above seen ≤ n → is_among (record {
 is_new n [] h = refl
 is_new n (m ∷ ms) h = differ n m.0 (is_among (record { 0 = n }) ms) (λ e. omega (arith, e, h)) (is_new n ms (omega (arith, h)))
 
-abbrev new_name : List Sym → Sym
+abbrev pub new_name : List Sym → Sym
 new_name seen = record { 0 = above seen }
 
-is_new_name : (k : LetWord) (seen : List Sym) → repeats k (new_name seen) seen ≡ false
+pub is_new_name : (k : LetWord) (seen : List Sym) → repeats k (new_name seen) seen ≡ false
 is_new_name Let seen = refl
 is_new_name LetDeduction seen = refl
 is_new_name LetRec seen = is_new (above seen) seen (omega arith)

@@ -1,12 +1,15 @@
 pub mod Agrees
 pub mod DirectiveAgrees
 pub mod DirectiveParts
+pub mod DirectiveReady
 pub mod Expects
 pub mod Laws
 pub mod Least
 pub mod Meaning
 pub mod PhraseComplete
+pub mod PhraseReady
 pub mod PhraseSound
 pub mod Ready
 pub mod SmallParts
+pub mod SmallReady
 pub mod Steps

@@ -1,30 +1,27 @@
 -- All that the rules of directives lead to can be completed.
-use Rattle.std.proofs.Common.{◌≡◌, ℕ, List, [], ◌∷◌, Bool, true, false, Option, Some, None, refl}
+use Rattle.std.proofs.Common.{◌≡◌, List, [], ◌∷◌, Bool, true, false, Option, Some, None}
 use Rattle.ath_sorts.specs.declared.sorts.Sym.{Sym}
 use Rattle.ath_syntax.specs.declared.place.Pos.{Pos}
-use Rattle.ath_syntax.specs.declared.node.SortText.{SortText, Var as sort_var, Con as sort_con}
-use Rattle.ath_syntax.specs.Tree.{Phrase, DirectiveTree, directive_at, domain_is, datatype_is, declare_is, define_is, define_fun_is, assert_is, load_is, phrase_is, name_at, apply_at, no_phrases}
+use Rattle.ath_syntax.specs.declared.node.SortText.{SortText, Con as sort_con}
+use Rattle.ath_syntax.specs.Tree.{DirectiveTree, directive_at, domain_is, datatype_is, declare_is, define_is, define_fun_is, assert_is, load_is, phrase_is, name_at, apply_at, no_phrases}
 use Rattle.ath_grammar.specs.declared.lexeme.DirectiveWord.{DirectiveWord}
 use Rattle.ath_grammar.specs.declared.lexeme.DirectiveWord.TheVariants.{Domain, Datatype, Declare, Define, Assert, Load, Other}
 use Rattle.ath_grammar.specs.declared.lexeme.WordClass.{WordClass}
-use Rattle.ath_grammar.specs.declared.lexeme.WordClass.TheVariants.{Plain, Dotted, Logical, Infix, Tilde, Back}
-use Rattle.ath_grammar.specs.declared.lexeme.Lexeme.{Lexeme}
+use Rattle.ath_grammar.specs.declared.lexeme.WordClass.TheVariants.{Plain}
 use Rattle.ath_grammar.specs.declared.lexeme.Lexeme.TheVariants.{Word, Directive, To, SortVar, Str, Becomes, Open, Close, OpenBracket, Bar, Comma, Colon}
 use Rattle.ath_grammar.specs.Kinds.{any, only}
-use Rattle.ath_grammar.specs.Tokens.{Placed, at, is_bar, starts, starts_becomes, names_sentence}
-use Rattle.ath_grammar.specs.Small.{round, square, is_path, SpellsSort, sort_is_name, sort_is_var, sort_is_con, SpellsSorts, SpellsParams, SpellsVars, vars_end, vars_more}
-use Rattle.ath_grammar.specs.Phrases.{SpellsPhrase, name}
-use Rattle.ath_grammar.specs.Directives.{SpellsHeader, header_plain, header_vars, SpellsConstructor, constructor_plain, constructor_sorts, SpellsConstructorList, constructor_list_end, constructor_list_more, SpellsAlternatives, alternatives_last, alternatives_more, SpellsNames, names_last, names_more, SpellsNameList, name_list_end, name_list_more, SpellsGroup, group_one, group_list, SpellsType, type_sort, type_brackets, type_arrow, SpellsSignature, signature_plain, signature_params, SpellsDirective, domain_paired, domain, datatype_paired, datatype, declare_paired, declare, define_paired, define, define_fun_paired, define_fun, assert_paired, assert, assert_named, load_paired, load, phrase}
+use Rattle.ath_grammar.specs.Tokens.{Placed, at, is_bar, starts}
+use Rattle.ath_grammar.specs.Small.{round, is_path}
+use Rattle.ath_grammar.specs.Phrases.{name}
 use Rattle.ath_grammar.specs.Lists.{put}
-use Rattle.ath_grammar.specs.Rules.{Kind, a_directive, a_header, a_constructor, Header, Constructor, Part, phrase_part, inside, parts, tail, sort_part, sorts, pattern_part, patterns, params, vars, hypothesis_first, try_inside, binders, closure_part, closure_inside, row_pairs, rows, clause_pairs, clause_rows, branch_pairs, branch_inside, branch_rows, header_part, constructor_part, constructor_list, alternatives, names, name_list, directive_part, Rule, done, refuse, token, peek, goto, push, check, deeper, shallower}
-use Rattle.ath_grammar.specs.SmallRules.{when, unless, close_mark, open_mark, to_mark, becomes_mark, expect, sort_rule}
-use Rattle.ath_grammar.specs.PhraseRules.{phrase_rule, inside_rule}
-use Rattle.ath_grammar.specs.DirectiveRules.{finish, equals, header_var, header_name, header_rule, constructor_name, constructor_rule, constructor_list_rule, after_constructor, alternative, alternatives_bar, declared_as, type_inside, type_rule, signature_inside, signature_rule, after_declared, names_rule, name_list_rule, group_first, group_rule, fun_name, define_rule, asserted, assert_becomes, assert_rule, load_rule, keyword_rule, phrase_said, directive_inside, directive_rule, first}
+use Rattle.ath_grammar.specs.Rules.{Kind, a_directive, a_header, a_constructor, Header, Constructor, Part, phrase_part, inside, parts, tail, sort_part, sorts, pattern_part, patterns, params, vars, hypothesis_first, try_inside, binders, closure_part, closure_inside, row_pairs, rows, clause_pairs, clause_rows, branch_pairs, branch_inside, branch_rows, header_part, constructor_part, constructor_list, alternatives, names, name_list, directive_part, Rule, done, token, peek, goto, push, deeper, shallower}
+use Rattle.ath_grammar.specs.SmallRules.{when, close_mark, open_mark, to_mark, becomes_mark, expect}
+use Rattle.ath_grammar.specs.DirectiveRules.{finish, equals, header_var, header_name, header_rule, constructor_name, constructor_rule, constructor_list_rule, after_constructor, alternative, alternatives_bar, declared_as, type_inside, type_rule, signature_inside, signature_rule, after_declared, names_rule, name_list_rule, group_first, group_rule, fun_name, define_rule, asserted, assert_becomes, assert_rule, load_rule, keyword_rule, directive_inside, directive_rule, first}
 use Rattle.ath_grammar.proofs.Meaning.{wholly, Means}
-use Rattle.ath_grammar.proofs.Steps.{allowed_true, Agrees}
-use Rattle.ath_grammar.proofs.Ready.{Ends, Solid, Fine, IsReady, ends, ends_token, fine_solid}
-use Rattle.ath_grammar.proofs.Least.{here, some_name, ends_expect, least}
-use Rattle.ath_grammar.proofs.SmallReady.{fine_when, fine_unless, solid_token, solid_expect, fine_sort, fine_sorts, fine_pattern, fine_patterns, fine_params, fine_vars}
+use Rattle.ath_grammar.proofs.Steps.{allowed_true}
+use Rattle.ath_grammar.proofs.Ready.{Ends, Solid, Fine, IsReady, fine_solid}
+use Rattle.ath_grammar.proofs.Least.{here, some_name, least}
+use Rattle.ath_grammar.proofs.SmallReady.{fine_when, solid_token, solid_expect, fine_sort, fine_sorts, fine_pattern, fine_patterns, fine_params, fine_vars}
 use Rattle.ath_grammar.proofs.PhraseReady.{fine_phrase, fine_inside, fine_parts, fine_tail, fine_hypothesis, fine_try_inside, fine_binders, fine_closure, fine_closure_inside, fine_row_pairs, fine_rows, fine_clause_pairs, fine_clause_rows, fine_branch_pairs, fine_branch_inside, fine_branch_rows}
 
 module _ (a : Bool) where
@@ -222,8 +219,15 @@ module _ (a : Bool) where
   fine_directive_inside p t = (tt, fine_inside a p any t, λ x. tt)
 
   solid_inside : (p : Pos) → Solid a (token (directive_inside p))
-  solid_inside p = (fine_directive_inside p, (at here (Word Plain some_name) ∷ at here Close ∷ [], directive_at p (phrase_is (apply_at p (name_at here some_name) no_phrases)), λ r h.
-      (apply_at p (name_at here some_name) no_phrases, r, (name_at here some_name, at here Close ∷ r, (allowed_true a, wholly), wholly), wholly)))
+  solid_inside p = (
+    fine_directive_inside p,
+    (
+      at here (Word Plain some_name) ∷ at here Close ∷ [],
+      directive_at p (phrase_is (apply_at p (name_at here some_name) no_phrases)),
+      λ r h.
+          (apply_at p (name_at here some_name) no_phrases, r, (name_at here some_name, at here Close ∷ r, (allowed_true a, wholly), wholly), wholly),
+    ),
+  )
 
   fine_directive : (t : Placed) → Fine a (directive_rule t)
   fine_directive (at p (Directive k)) = fine_bare p k

@@ -1,10 +1,10 @@
 -- The least tokens that spell each part.
-use Rattle.std.proofs.Common.{◌≡◌, ℕ, ◌+◌, ◌≤◌, List, [], ◌∷◌, ◌++◌, Bool, true, false, Option, Some, None, refl, arith, if◌then◌else◌, ◌==◌, subst, sym}
+use Rattle.std.proofs.Common.{◌≡◌, ℕ, ◌+◌, ◌≤◌, List, [], ◌∷◌, ◌++◌, Bool, true, false, None, refl, arith, if◌then◌else◌, ◌==◌, subst, sym}
 use Rattle.std.proofs.lemmas.Bool.{ne_eqb}
 use Rattle.ath_sorts.specs.declared.sorts.Sym.{Sym}
 use Rattle.ath_syntax.specs.declared.place.Pos.{Pos}
 use Rattle.ath_syntax.specs.declared.node.SortText.{SortText, Var as sort_var}
-use Rattle.ath_syntax.specs.Tree.{Pattern, any_pattern, Patterns, no_patterns, Binder, Phrase, name_at, apply_at, call_at, lambda_at, check_at, try_at, pick_any_at, Phrases, no_phrases, more_phrases, Bindings, no_bindings, more_bindings, Clauses, no_clauses, more_clauses, Branches, no_branches, more_branches, no_else, is_deduction, directive_at, datatype_is, declare_is, phrase_is}
+use Rattle.ath_syntax.specs.Tree.{Pattern, any_pattern, Patterns, no_patterns, Phrase, name_at, apply_at, call_at, lambda_at, check_at, try_at, pick_any_at, Phrases, no_phrases, more_phrases, Bindings, no_bindings, more_bindings, Clauses, no_clauses, more_clauses, Branches, no_branches, more_branches, no_else, is_deduction, directive_at, datatype_is, declare_is, phrase_is}
 use Rattle.ath_grammar.specs.declared.lexeme.ClosureWord.TheVariants.{Lambda}
 use Rattle.ath_grammar.specs.declared.lexeme.ClauseWord.{ClauseWord}
 use Rattle.ath_grammar.specs.declared.lexeme.LetWord.{LetWord}
@@ -13,14 +13,14 @@ use Rattle.ath_grammar.specs.declared.lexeme.FormWord.TheVariants.{Closure}
 use Rattle.ath_grammar.specs.declared.lexeme.WordClass.TheVariants.{Plain}
 use Rattle.ath_grammar.specs.declared.lexeme.Lexeme.{Lexeme}
 use Rattle.ath_grammar.specs.declared.lexeme.Lexeme.TheVariants.{Word, Form, Wild, Arrow, To, SortVar, Becomes, Open, Close, CloseBracket, CloseBrace, Bar, Bang, Colon}
-use Rattle.ath_grammar.specs.Kinds.{Want, any, only, allowed, Fits, bound}
+use Rattle.ath_grammar.specs.Kinds.{Want, any, only, allowed, bound}
 use Rattle.ath_grammar.specs.Tokens.{Placed, at, is_among}
 use Rattle.ath_grammar.specs.Small.{Closer, round, square, closes_round, closes_square, sort_is_var, sorts_end, pattern_any, patterns_end, params_end, vars_end}
-use Rattle.ath_grammar.specs.Phrases.{hypothesis_at, clauses_at, let_phrase, repeats, after_row, is_rec, SpellsPhrase, name, apply_none, call, SpellsForm, closure, hypothesis, parts_end, tail_end, SpellsBound, bound_phrase, bound_closure, SpellsClosure, closure_bare, closure_paired, row_pairs_end, rows_last, clause_pairs_end, clauses_last, branch_pairs_end, branch_pairs_more, branches_last, binders_bare}
+use Rattle.ath_grammar.specs.Phrases.{hypothesis_at, clauses_at, let_phrase, repeats, after_row, name, apply_none, call, closure, hypothesis, parts_end, tail_end, closure_paired, clause_pairs_end, branch_pairs_end, binders_bare}
 use Rattle.ath_grammar.specs.Directives.{header_plain, constructor_plain, constructor_list_end, alternatives_last, names_last, name_list_end, type_sort, signature_plain, phrase}
 use Rattle.ath_grammar.specs.Lists.{put, put_phrases, put_patterns, put_bindings, put_clauses, put_branches, names_of}
 use Rattle.ath_grammar.specs.Rules.{Kind, a_phrase, a_pattern, Part, phrase_part, inside, parts, tail, sort_part, sorts, pattern_part, patterns, params, vars, hypothesis_first, try_inside, binders, closure_part, closure_inside, row_pairs, rows, clause_pairs, clause_rows, branch_pairs, branch_inside, branch_rows, header_part, constructor_part, constructor_list, alternatives, names, name_list, directive_part, Value, Rule, done, token, goto, push, check, shallower}
-use Rattle.ath_grammar.proofs.Meaning.{image, wholly, TryOn, try_on_parts, binders_on, row_pairs_on, rows_on, branch_pairs_on, branch_inside_on, branch_rows_on, alternatives_on, names_on, name_list_on}
+use Rattle.ath_grammar.proofs.Meaning.{image, wholly, try_on_parts, binders_on, branch_pairs_on, alternatives_on, names_on, name_list_on}
 use Rattle.ath_grammar.proofs.Steps.{allowed_true}
 use Rattle.ath_grammar.proofs.Ready.{Ends, ends_push, ends_token}
 use Rattle.ath_grammar.proofs.Expects.{unless_complete}

@@ -3,13 +3,14 @@ pub mod DirectiveAgrees
 pub mod DirectiveParts
 pub mod DirectiveReady
 pub mod Expects
-pub mod Laws
 pub mod Least
 pub mod Meaning
 pub mod PhraseComplete
 pub mod PhraseReady
 pub mod PhraseSound
 pub mod Ready
+pub mod Runs
 pub mod SmallParts
 pub mod SmallReady
 pub mod Steps
+pub mod Whole

@@ -1,9 +1,9 @@
 -- All that the rules of phrases lead to can be completed.
-use Rattle.std.proofs.Common.{◌≡◌, ℕ, List, [], ◌∷◌, Bool, true, false, Option, Some, None, refl, if◌then◌else◌}
+use Rattle.std.proofs.Common.{ℕ, List, [], ◌∷◌, Bool, true, false, Some, None, if◌then◌else◌}
 use Rattle.ath_sorts.specs.declared.sorts.Sym.{Sym}
 use Rattle.ath_syntax.specs.declared.place.Pos.{Pos}
-use Rattle.ath_syntax.specs.declared.node.SortText.{SortText, Var as sort_var}
-use Rattle.ath_syntax.specs.Tree.{Pattern, Binder, Phrase, name_at, variable_at, string_at, list_at, ascribe_at, apply_at, call_at, check_at, try_at, seq_at, pick_any_at, pick_witness_at, Phrases, no_phrases, more_phrases, Bindings, no_bindings, more_bindings, Clauses, no_clauses, more_clauses, Branches, no_branches, more_branches, Otherwise, no_else, else_phrase, is_deduction}
+use Rattle.ath_syntax.specs.declared.node.SortText.{Var as sort_var}
+use Rattle.ath_syntax.specs.Tree.{Pattern, Binder, Phrase, name_at, variable_at, ascribe_at, call_at, pick_any_at, Phrases, no_phrases, Bindings, no_bindings, more_bindings, Clauses, no_clauses, more_clauses, Branches, more_branches, is_deduction}
 use Rattle.ath_grammar.specs.declared.lexeme.ClosureWord.{ClosureWord}
 use Rattle.ath_grammar.specs.declared.lexeme.ClauseWord.{ClauseWord}
 use Rattle.ath_grammar.specs.declared.lexeme.HypothesisWord.{HypothesisWord}
@@ -11,23 +11,21 @@ use Rattle.ath_grammar.specs.declared.lexeme.LetWord.{LetWord}
 use Rattle.ath_grammar.specs.declared.lexeme.LetWord.TheVariants.{Let, LetDeduction, LetRec}
 use Rattle.ath_grammar.specs.declared.lexeme.FormWord.{FormWord}
 use Rattle.ath_grammar.specs.declared.lexeme.FormWord.TheVariants.{Closure, Let as LetForm, Clauses as ClausesForm, Check, Try, Begin, Hypothesis, PickAny, PickWitness}
-use Rattle.ath_grammar.specs.declared.lexeme.WordClass.{WordClass}
-use Rattle.ath_grammar.specs.declared.lexeme.WordClass.TheVariants.{Plain, Dotted, Logical, Infix, Tilde, Back}
+use Rattle.ath_grammar.specs.declared.lexeme.WordClass.TheVariants.{Plain}
 use Rattle.ath_grammar.specs.declared.lexeme.Lexeme.{Lexeme}
-use Rattle.ath_grammar.specs.declared.lexeme.Lexeme.TheVariants.{Word, Form, SortVar, Else, Arrow, Var, Str, Becomes, Open, Close, OpenBracket, CloseBracket, OpenBrace, CloseBrace, Bar, Semicolon, Bang, Colon}
-use Rattle.ath_grammar.specs.Kinds.{Want, any, only, same_kind, fits, allowed, Fits, IsExpression, bound}
-use Rattle.ath_grammar.specs.Tokens.{Placed, at, is_first_item, is_operator, is_word, is_name, is_brace, is_colon, begins_phrase, goes_on, starts, clashes}
-use Rattle.ath_grammar.specs.Small.{Closer, round, square, Closes, closes_round, closes_square, SpellsSort, sort_is_var, SpellsPattern, SpellsParams}
-use Rattle.ath_grammar.specs.Phrases.{closure_at, body_deduces, hypothesis_at, clauses_at, clause_want, clause_fits, let_phrase, let_want, let_fits, is_rec, repeats, after_row, Separator, semicolon, bar, Separates, separates_semicolon, separates_bar, SpellsBinders, binders_bare, binders_sort, binders_bare_more, binders_sort_more, SpellsPhrase, name, variable, variable_sort, string, list, ascribe, apply_none, apply, parens, call, clauses_pairs, check_pairs, try_parts, seq_parts, seq_braces, bare, paired, SpellsForm, closure, let_pairs, let_braces, clauses_braces, check_braces, try_braces, hypothesis, hypothesis_named, pick_any, pick_any_name, pick_witness, SpellsParts, parts_end, parts_more, SpellsTail, tail_end, tail_more, SpellsBound, bound_phrase, bound_closure, SpellsClosure, closure_bare, closure_paired, closure_parens, SpellsRowPairs, row_pairs_end, row_pairs_more, SpellsRows, rows_last, rows_more, SpellsClausePairs, clause_pairs_end, clause_pairs_more, SpellsClauses, clauses_last, clauses_more, SpellsBranchPairs, branch_pairs_end, branch_pairs_else, branch_pairs_more, SpellsBranches, branches_last, branches_else, branches_more}
-use Rattle.ath_grammar.specs.Lists.{put, put_phrases, put_bindings, put_clauses, put_branches, names_of}
-use Rattle.ath_grammar.specs.Rules.{Kind, a_phrase, phrases_kind, Value, phrase_part, inside, hypothesis_first, try_inside, parts, tail, sort_part, pattern_part, params, binders, closure_part, closure_inside, row_pairs, rows, clause_pairs, clause_rows, branch_pairs, branch_inside, branch_rows, Rule, done, refuse, token, peek, goto, push, check, deeper, shallower}
-use Rattle.ath_grammar.specs.SmallRules.{when, unless, close_mark, close_brace_mark, open_mark, arrow_mark, becomes_mark, expect, sort_rule, pattern_rule}
-use Rattle.ath_grammar.specs.PhraseRules.{after_var, own_pair, bare_end, alternatives_rule, params_open, bound_rule, row_close, row_name, let_body, row_pairs_rule, row_more, rows_rule, let_open, clause_close, clause_inside, clause_pairs_rule, clause_more, clause_rows_rule, clauses_open, clauses_inside, check_done, branch_close, else_close, branch_pairs_rule, branch_more, check_open, check_inside, try_open, pick_body, pick_last, after_sorted, after_name, binders_rule, witness_name, form_rule, paired_rule, phrase_rule, heads, apply_rule, second_rule, inside_rule, parts_rule, tail_rule, hypothesis_body, hypothesis_becomes, hypothesis_rule, try_inside_rule, closure_inside_rule, closure_rule, branch_inside_rule, branch_rows_rule}
-use Rattle.ath_grammar.proofs.Meaning.{Image, image, TryOn, try_on_parts, try_on_form, BindersOn, binders_on, binders_on_name, binders_on_last, RowPairsOn, row_pairs_on, RowsOn, rows_on, BranchPairsOn, branch_pairs_on, BranchInsideOn, branch_inside_on, BranchRowsOn, branch_rows_on, Whole, wholly, Means}
+use Rattle.ath_grammar.specs.declared.lexeme.Lexeme.TheVariants.{Word, Form, SortVar, Else, Var, Becomes, Open, Close, OpenBracket, CloseBracket, OpenBrace, CloseBrace, Bar, Semicolon, Bang, Colon}
+use Rattle.ath_grammar.specs.Kinds.{Want, only}
+use Rattle.ath_grammar.specs.Tokens.{Placed, at, is_first_item, is_operator, is_word, begins_phrase, clashes}
+use Rattle.ath_grammar.specs.Small.{Closer, round, square, closes_round, sort_is_var}
+use Rattle.ath_grammar.specs.Phrases.{hypothesis_at, clause_want, let_want, repeats, after_row, Separator, semicolon, bar, SpellsPhrase, name, call, parts_end}
+use Rattle.ath_grammar.specs.Lists.{put, names_of}
+use Rattle.ath_grammar.specs.Rules.{a_phrase, phrase_part, sort_part, row_pairs, clause_pairs, branch_pairs, Rule, done, token, peek, goto, push, check, deeper, shallower}
+use Rattle.ath_grammar.specs.SmallRules.{unless, close_mark, close_brace_mark, open_mark, arrow_mark, becomes_mark, expect}
+use Rattle.ath_grammar.specs.PhraseRules.{after_var, own_pair, alternatives_rule, params_open, bound_rule, row_close, row_name, row_pairs_rule, row_more, rows_rule, let_open, clause_close, clause_inside, clause_pairs_rule, clause_more, clause_rows_rule, clauses_open, clauses_inside, check_done, branch_close, else_close, branch_pairs_rule, branch_more, check_open, check_inside, try_open, pick_body, pick_last, after_sorted, after_name, binders_rule, witness_name, form_rule, paired_rule, phrase_rule, heads, apply_rule, second_rule, inside_rule, parts_rule, tail_rule, hypothesis_body, hypothesis_becomes, hypothesis_rule, try_inside_rule, closure_inside_rule, closure_rule, branch_inside_rule, branch_rows_rule}
+use Rattle.ath_grammar.proofs.Meaning.{wholly}
 use Rattle.ath_grammar.proofs.Steps.{allowed_true}
-use Rattle.ath_grammar.proofs.Expects.{Marked, marked_close, marked_close_brace, marked_open, marked_arrow, marked_becomes, expect_sound, when_sound, when_complete, unless_sound, unless_complete}
-use Rattle.ath_grammar.proofs.Ready.{Ends, Solid, Fine, ends, ends_token, fine_solid}
-use Rattle.ath_grammar.proofs.Least.{here, some_name, new_name, is_new_name, ends_expect, ends_unless, least}
+use Rattle.ath_grammar.proofs.Ready.{Solid, Fine, ends, ends_token, fine_solid}
+use Rattle.ath_grammar.proofs.Least.{here, some_name, new_name, is_new_name, ends_unless, least}
 use Rattle.ath_grammar.proofs.SmallReady.{fine_when, fine_unless, solid_token, solid_expect, fine_pattern}
 
 module _ (a : Bool) where
@@ -76,8 +74,11 @@ module _ (a : Bool) where
   fine_row_name k p w bs _ = tt
 
   solid_row_name : (k : LetWord) (p : Pos) (w : Want) (bs : Bindings) → Solid a (token (row_name k p w bs))
-  solid_row_name k p w bs = let n = new_name (names_of bs) in (fine_row_name k p w bs, ends_token a (row_name k p w bs) (at here (Word Plain n))
-      (ends_unless a (repeats k n (names_of bs)) (push (row_close k p w bs n) (bound_rule k w)) (is_new_name k (names_of bs)) (ends a (least a) (push (row_close k p w bs n) (bound_rule k w)) (row_parts k p w bs n))))
+  solid_row_name k p w bs = let n = new_name (names_of bs) in (
+    fine_row_name k p w bs,
+    ends_token a (row_name k p w bs) (at here (Word Plain n))
+        (ends_unless a (repeats k n (names_of bs)) (push (row_close k p w bs n) (bound_rule k w)) (is_new_name k (names_of bs)) (ends a (least a) (push (row_close k p w bs n) (bound_rule k w)) (row_parts k p w bs n))),
+  )
 
   pub fine_row_pairs : (k : LetWord) (p : Pos) (w : Want) (bs : Bindings) (t : Placed) → Fine a (row_pairs_rule k p w bs t)
   fine_row_pairs k p w bs (at q Open) = solid_row_name k p w bs
@@ -128,8 +129,12 @@ module _ (a : Bool) where
   solid_clause_more c p e w cs = solid_at (clause_more c p e w cs) (fine_clause_more c p e w cs) (at here CloseBrace) tt
 
   pub fine_clause_rows : (c : ClauseWord) (p : Pos) (e : Phrase) (w : Want) (cs : Clauses) (t : Placed) → Fine a (clause_rows_rule c p e w cs t)
-  fine_clause_rows c p e w cs t = (tt, fine_pattern a t, λ l. solid_expect a a_phrase arrow_mark (push (λ x. token (clause_more c p e (only (is_deduction x)) (more_clauses l x cs))) (goto (phrase_part w)))
-      (tt, tt, λ x. solid_clause_more c p e (only (is_deduction x)) (more_clauses l x cs)))
+  fine_clause_rows c p e w cs t = (
+    tt,
+    fine_pattern a t,
+    λ l. solid_expect a a_phrase arrow_mark (push (λ x. token (clause_more c p e (only (is_deduction x)) (more_clauses l x cs))) (goto (phrase_part w)))
+        (tt, tt, λ x. solid_clause_more c p e (only (is_deduction x)) (more_clauses l x cs)),
+  )
 
   fine_clauses_open : (c : ClauseWord) (p : Pos) (w : Want) (e : Phrase) (t : Placed) → Fine a (clauses_open c p w e t)
   fine_clauses_open c p w e (at q OpenBrace) = tt
@@ -309,5 +314,9 @@ module _ (a : Bool) where
 
   pub fine_branch_rows : (p : Pos) (later : Bool) (w : Want) (bs : Branches) (t : Placed) → Fine a (branch_rows_rule p later w bs t)
   fine_branch_rows p later w bs (at q Else) = fine_when a later (expect arrow_mark (else_rest p w bs)) (solid_expect a a_phrase arrow_mark (else_rest p w bs) (tt, tt, λ x. solid_expect a a_phrase close_brace_mark (shallower (done (check_done p bs x))) tt))
-  fine_branch_rows p later w bs t = (tt, fine_phrase (only false) t, λ e. solid_expect a a_phrase arrow_mark (push (λ x. token (branch_more p (only (is_deduction x)) (more_branches e x bs))) (goto (phrase_part w)))
-      (tt, tt, λ x. solid_branch_more p (only (is_deduction x)) (more_branches e x bs)))
+  fine_branch_rows p later w bs t = (
+    tt,
+    fine_phrase (only false) t,
+    λ e. solid_expect a a_phrase arrow_mark (push (λ x. token (branch_more p (only (is_deduction x)) (more_branches e x bs))) (goto (phrase_part w)))
+        (tt, tt, λ x. solid_branch_more p (only (is_deduction x)) (more_branches e x bs)),
+  )

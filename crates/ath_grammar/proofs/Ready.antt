@@ -1,13 +1,12 @@
 -- Each state that is reached can be completed.
-use Rattle.std.proofs.Common.{◌≡◌, ℕ, suc, ◌-◌, List, [], ◌∷◌, ◌++◌, Bool, true, false, Option, Some, None, refl, sym, ap, ◌∙◌, subst}
+use Rattle.std.proofs.Common.{◌≡◌, ℕ, suc, ◌-◌, List, [], ◌∷◌, ◌++◌, Bool, false, refl, sym, ap, subst}
 use Rattle.ath_syntax.specs.Tree.{DirectiveTree}
-use Rattle.ath_grammar.specs.Kinds.{allowed}
 use Rattle.ath_grammar.specs.Tokens.{Placed, starts, is_bar}
-use Rattle.ath_grammar.specs.Rules.{Kind, a_phrase, phrases_kind, a_sort, sorts_kind, a_pattern, patterns_kind, names_kind, a_header, a_constructor, a_directive, Value, Part, directive_part, Rule, done, refuse, token, peek, goto, push, check, deeper, shallower}
+use Rattle.ath_grammar.specs.Rules.{Kind, a_directive, Value, Part, directive_part, Rule, done, refuse, token, peek, goto, push, check, deeper, shallower}
 use Rattle.ath_grammar.specs.DirectiveRules.{first}
-use Rattle.ath_grammar.specs.Machine.{Stack, bottom, frame, Config, whole, waits, lingers, Outcome, no, on, over, both, also, settled, deliver, settle, taken, handed, step, beginning, granted, advance, read_on}
-use Rattle.ath_grammar.proofs.Meaning.{Spells, Whole, wholly, Means}
-use Rattle.ath_grammar.proofs.Steps.{Resumes, Follows, Continues, Agrees}
+use Rattle.ath_grammar.specs.Machine.{Stack, bottom, frame, Config, whole, waits, lingers, Outcome, no, on, over, also, settled, deliver, taken, handed, step, beginning}
+use Rattle.ath_grammar.proofs.Meaning.{wholly, Means}
+use Rattle.ath_grammar.proofs.Steps.{Resumes, Continues, Agrees}
 
 -- the tokens behind a directive; those behind anything else don't matter
 abbrev pub Rests : Kind → List Placed → Type 0

@@ -1,15 +1,15 @@
 -- All that the rules of sorts, patterns and lists of names lead to can be completed.
-use Rattle.std.proofs.Common.{◌≡◌, List, [], ◌∷◌, Bool, true, false, refl}
+use Rattle.std.proofs.Common.{List, [], ◌∷◌, Bool, true, false}
 use Rattle.ath_sorts.specs.declared.sorts.Sym.{Sym}
 use Rattle.ath_syntax.specs.declared.node.SortText.{SortText, Name as sort_name, Con as sort_con}
-use Rattle.ath_syntax.specs.Tree.{Pattern, name_pattern, list_pattern, list_of_pattern, app_pattern, some_pattern, Patterns, no_patterns, any_pattern}
-use Rattle.ath_grammar.specs.declared.lexeme.WordClass.TheVariants.{Plain, Dotted, Logical, Infix, Tilde, Back}
-use Rattle.ath_grammar.specs.declared.lexeme.Lexeme.TheVariants.{Word, Wild, ListOf, SomeOf, SortVar, Str, Open, Close, OpenBracket, CloseBracket}
+use Rattle.ath_syntax.specs.Tree.{name_pattern, list_of_pattern, app_pattern, some_pattern, Patterns, no_patterns}
+use Rattle.ath_grammar.specs.declared.lexeme.WordClass.TheVariants.{Plain}
+use Rattle.ath_grammar.specs.declared.lexeme.Lexeme.TheVariants.{Word, ListOf, SomeOf, SortVar, Open, Close, OpenBracket, CloseBracket}
 use Rattle.ath_grammar.specs.Tokens.{Placed, at, is_among}
 use Rattle.ath_grammar.specs.Small.{Closer, round, square, is_path, is_head}
-use Rattle.ath_grammar.specs.Rules.{Kind, a_phrase, a_sort, a_pattern, Rule, sorts, patterns, pattern_part, params, vars, done, token, goto, push, shallower}
+use Rattle.ath_grammar.specs.Rules.{Kind, a_sort, a_pattern, Rule, sorts, patterns, params, vars, done, token, goto, push, shallower}
 use Rattle.ath_grammar.specs.SmallRules.{when, unless, Mark, close_mark, marked, expect, is_mark, sort_named, sort_rule, sorts_rule, some_named, pattern_inside, pattern_rule, patterns_rule, params_rule, vars_rule}
-use Rattle.ath_grammar.proofs.Ready.{Ends, Solid, Fine, ends, ends_token, fine_solid}
+use Rattle.ath_grammar.proofs.Ready.{Solid, Fine, ends, ends_token, fine_solid}
 use Rattle.ath_grammar.proofs.Least.{here, some_name, ends_expect, least}
 
 module _ (a : Bool) where

@@ -1,6 +1,10 @@
 //! A reader of one token at a time, that builds trees.
 #![tactic(auto)]
 
+pub mod frame;
+pub mod state;
 pub mod tree;
 
-pub use tree::{PatternTree, PhraseTree};
+pub use frame::{Closer, Frame, Separator, Want};
+pub use state::{Move, State, Turn};
+pub use tree::{DirectiveTree, PatternTree, PhraseTree, StatementTree};

@@ -6,7 +6,7 @@ use ath_syntax::{Pos, SortText};
 use sqlite_items::{Boxed, Items};
 
 /// A pattern.
-#[derive(Debug, Drop)]
+#[derive(Drop)]
 pub enum PatternTree {
     Any,
     Name(Sym),
@@ -18,7 +18,7 @@ pub enum PatternTree {
 }
 
 /// A phrase. A form of one shape with others comes with its keyword.
-#[derive(Debug, Drop)]
+#[derive(Drop)]
 pub enum PhraseTree {
     Name(Pos, Sym),
     Var(Pos, Sym, u64, Option<SortText>),
@@ -36,4 +36,24 @@ pub enum PhraseTree {
     Hypothesis(HypothesisWord, Pos, Option<Sym>, Boxed<PhraseTree>, Boxed<PhraseTree>),
     PickAny(Pos, Items<(Sym, Option<SortText>)>, Boxed<PhraseTree>),
     PickWitness(Pos, Sym, Boxed<PhraseTree>, Boxed<PhraseTree>),
+}
+
+/// What a directive says.
+#[derive(Drop)]
+pub enum StatementTree {
+    Domain(Sym, Items<Sym>),
+    Datatype(Sym, Items<Sym>, Items<(Sym, Items<SortText>)>),
+    Declare(Items<Sym>, Option<Items<Sym>>, Items<SortText>, SortText),
+    Define(Sym, PhraseTree),
+    DefineFun(Sym, Items<Sym>, PhraseTree),
+    Assert(Option<Sym>, bool, PhraseTree),
+    Load(Items<u8>),
+    Phrase(PhraseTree),
+}
+
+/// A directive and its place.
+#[derive(Drop)]
+pub struct DirectiveTree {
+    pub pos: Pos,
+    pub statement: StatementTree,
 }

@@ -53,6 +53,7 @@ use Rattle.ath_automaton.specs.declared.state.State.{State}
 use Rattle.ath_automaton.specs.declared.state.State.TheVariants as st
 use Rattle.ath_automaton.specs.declared.state.Turn.{Turn}
 use Rattle.ath_automaton.specs.declared.state.Turn.TheVariants as t
+use Rattle.ath_automaton.specs.declared.state.Next.{Next}
 use Rattle.ath_automaton.specs.declared.state.Move.{Move}
 use Rattle.ath_automaton.specs.Trees.{pattern_of, phrase_of, directive_of, phrases_of, patterns_of, back, phrases_back, patterns_back, rows_back, clauses_back, branches_back}
 
@@ -288,5 +289,8 @@ outcome_of (t.Header m vs) n ks = deliver (ks a_header) (m, vs) n
 outcome_of (t.Constructor m vs) n ks = deliver (ks a_constructor) (m, vs) n
 outcome_of (t.Directive d) n ks = deliver (ks a_directive) (directive_of d) n
 
+abbrev pub next_of : Next → List Frame → Outcome
+next_of n fs = outcome_of n.turn n.level (λ k. stack_of k fs)
+
 abbrev pub moved : Move → List Frame → Outcome
-moved m fs = also m.fits (outcome_of m.turn m.level (λ k. stack_of k fs))
+moved m fs = also m.fits (next_of m.next fs)

@@ -2,9 +2,10 @@
 #![tactic(auto)]
 
 pub mod frame;
+pub mod small;
 pub mod state;
 pub mod tree;
 
 pub use frame::{Closer, Frame, Separator, Want};
-pub use state::{Move, State, Turn};
+pub use state::{Move, Next, State, Turn};
 pub use tree::{DirectiveTree, PatternTree, PhraseTree, StatementTree};

@@ -137,10 +137,16 @@ pub enum Turn {
     Directive(DirectiveTree),
 }
 
-/// A turn, whether the kinds of phrases fit, and the levels that are open.
+/// A turn, and the levels that are open there.
+#[derive(Drop)]
+pub struct Next {
+    pub level: u64,
+    pub turn: Turn,
+}
+
+/// A turn, and whether the kinds of phrases fit.
 #[derive(Drop)]
 pub struct Move {
     pub fits: bool,
-    pub level: u64,
-    pub turn: Turn,
+    pub next: Next,
 }

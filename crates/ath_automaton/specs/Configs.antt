@@ -15,6 +15,8 @@ use Rattle.ath_grammar.specs.SmallRules.{close_mark, close_brace_mark, open_mark
 use Rattle.ath_grammar.specs.PhraseRules.{after_var, own_pair, bare_end, params_open, bound_rule, row_close, row_name, row_more, let_open, clause_close, clause_more, clauses_open, clauses_inside, check_done, branch_close, else_close, branch_more, check_open, check_inside, try_open, pick_body, pick_last, after_sorted, after_name, witness_name, second_rule, hypothesis_body, hypothesis_becomes}
 use Rattle.ath_grammar.specs.DirectiveRules.{first, finish, equals, header_var, header_name, constructor_name, after_constructor, alternative, declared_as, type_inside, type_rule, signature_inside, signature_rule, after_declared, group_first, group_rule, fun_name, define_rule, asserted, assert_becomes, assert_rule, load_rule, phrase_said, directive_inside}
 use Rattle.ath_grammar.specs.Machine.{Stack, bottom, frame, Config, whole, waits, lingers, Outcome, no, on, over, also, deliver}
+use Rattle.ath_grammar.specs.declared.lexeme.Lexeme.{Lexeme}
+use Rattle.ath_grammar.specs.declared.lexeme.Lexeme.TheVariants.{Close, CloseBracket}
 use Rattle.ath_automaton.specs.declared.frame.Want.{Want}
 use Rattle.ath_automaton.specs.declared.frame.Want.TheVariants.{Any, Only}
 use Rattle.ath_automaton.specs.declared.frame.Closer.{Closer}
@@ -64,6 +66,12 @@ want_of (Only k) = grammar.only k
 abbrev pub closer_of : Closer → brackets.Closer
 closer_of Round = brackets.round
 closer_of Square = brackets.square
+
+-- whether a token is the bracket
+abbrev pub is_closing : Closer → Lexeme → Bool
+is_closing Round Close = true
+is_closing Square CloseBracket = true
+is_closing c t = false
 
 abbrev pub separator_of : Separator → forms.Separator
 separator_of Semicolon = forms.semicolon

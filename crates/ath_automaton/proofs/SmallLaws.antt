@@ -42,8 +42,8 @@ patterns_on Round read p Close n ks h = cc
 patterns_on Square read p CloseBracket n ks h = cc
 patterns_on c read p t n ks h = refl
 
-pub patterns_next : (c : Closer) (read : List PatternTree) (p : Pos) (t : Lexeme) (level : ℕ) (old new : List Frame) (n : Next) → is_closing c t ≡ false → new ≡ old ++ f.Pattern (l.Item c read) ∷ [] → next_of n (turned [] new) ≡ settle (pattern_rule (at p t)) level (stack_of a_pattern (turned [] new)) → next_of n (turned [] new) ≡ settle (patterns_rule (closer_of c) (patterns_back no_patterns read) (at p t)) level (stack_of patterns_kind (turned [] old))
-patterns_next c read p t level old new n h e g = g ∙ ap (λ (fs : List Frame). settle (pattern_rule (at p t)) level (stack_of a_pattern fs)) (ap (turned []) e ∙ turned_push [] old (f.Pattern (l.Item c read))) ∙ sym (patterns_on c read p t level (stack_of patterns_kind (turned [] old)) h)
+pub patterns_next : (c : Closer) (read : List PatternTree) (p : Pos) (t : Lexeme) (level : ℕ) (old new last : List Frame) (n : Next) → is_closing c t ≡ false → new ≡ old ++ f.Pattern (l.Item c read) ∷ [] → next_of n (turned [] last) ≡ settle (pattern_rule (at p t)) level (stack_of a_pattern (turned [] new)) → next_of n (turned [] last) ≡ settle (patterns_rule (closer_of c) (patterns_back no_patterns read) (at p t)) level (stack_of patterns_kind (turned [] old))
+patterns_next c read p t level old new last n h e g = g ∙ ap (λ (fs : List Frame). settle (pattern_rule (at p t)) level (stack_of a_pattern fs)) (ap (turned []) e ∙ turned_push [] old (f.Pattern (l.Item c read))) ∙ sym (patterns_on c read p t level (stack_of patterns_kind (turned [] old)) h)
 
 -- the bracket ends the list
 back_put : {A : Type 0} (ys xs : List A) → put (turned ys xs) [] ≡ put ys xs

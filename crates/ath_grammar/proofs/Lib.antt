@@ -3,6 +3,7 @@ pub mod DirectiveAgrees
 pub mod DirectiveParts
 pub mod DirectiveReady
 pub mod Expects
+pub mod Handed
 pub mod Least
 pub mod Meaning
 pub mod PhraseComplete

@@ -2,6 +2,7 @@
 #![tactic(auto)]
 
 pub mod frame;
+pub mod resume;
 pub mod small;
 pub mod state;
 pub mod tree;

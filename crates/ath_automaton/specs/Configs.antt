@@ -25,6 +25,22 @@ use Rattle.ath_automaton.specs.declared.frame.Separator.{Separator}
 use Rattle.ath_automaton.specs.declared.frame.Separator.TheVariants.{Semicolon, Bar}
 use Rattle.ath_automaton.specs.declared.frame.PhraseFrame.{PhraseFrame}
 use Rattle.ath_automaton.specs.declared.frame.PhraseFrame.TheVariants as x
+use Rattle.ath_automaton.specs.declared.frame.PairFrame.{PairFrame}
+use Rattle.ath_automaton.specs.declared.frame.PairFrame.TheVariants as pair
+use Rattle.ath_automaton.specs.declared.frame.ItemFrame.{ItemFrame}
+use Rattle.ath_automaton.specs.declared.frame.ItemFrame.TheVariants as item
+use Rattle.ath_automaton.specs.declared.frame.FirstFrame.{FirstFrame}
+use Rattle.ath_automaton.specs.declared.frame.FirstFrame.TheVariants as first
+use Rattle.ath_automaton.specs.declared.frame.RowFrame.{RowFrame}
+use Rattle.ath_automaton.specs.declared.frame.RowFrame.TheVariants as row
+use Rattle.ath_automaton.specs.declared.frame.ClauseFrame.{ClauseFrame}
+use Rattle.ath_automaton.specs.declared.frame.ClauseFrame.TheVariants as clause
+use Rattle.ath_automaton.specs.declared.frame.BranchFrame.{BranchFrame}
+use Rattle.ath_automaton.specs.declared.frame.BranchFrame.TheVariants as branch
+use Rattle.ath_automaton.specs.declared.frame.SentenceFrame.{SentenceFrame}
+use Rattle.ath_automaton.specs.declared.frame.SentenceFrame.TheVariants as sentence
+use Rattle.ath_automaton.specs.declared.frame.WholeFrame.{WholeFrame}
+use Rattle.ath_automaton.specs.declared.frame.WholeFrame.TheVariants as whole
 use Rattle.ath_automaton.specs.declared.frame.PhrasesFrame.{PhrasesFrame}
 use Rattle.ath_automaton.specs.declared.frame.PhrasesFrame.TheVariants as xs
 use Rattle.ath_automaton.specs.declared.frame.SortFrame.{SortFrame}
@@ -85,41 +101,65 @@ stopped k = frame {j = k} {k = a_directive} (λ v. refuse) bottom
 abbrev pub Below : Type 0
 Below = (k : Kind) → Stack k
 
+abbrev pub pair_stack : PairFrame → Below → Stack a_phrase
+pair_stack pair.OwnPair ks = frame own_pair (ks a_phrase)
+pair_stack pair.Bare ks = frame bare_end (ks a_phrase)
+pair_stack (pair.Second p w word op) ks = frame (λ v. token (second_rule p (want_of w) word op v)) (ks a_phrase)
+
+abbrev pub item_stack : ItemFrame → Below → Stack a_phrase
+item_stack (item.ApplyPart p g) ks = frame (λ v. push (λ vs. done (apply_at p (phrase_of g) vs)) (goto (part.parts (grammar.only false) brackets.round (more_phrases v no_phrases)))) (ks a_phrase)
+item_stack (item.CallHead p) ks = frame (λ v. push (λ vs. done (call_at p v vs)) (goto (part.parts grammar.any brackets.round no_phrases))) (ks a_phrase)
+item_stack (item.Part w c vs) ks = frame (λ v. goto (part.parts (want_of w) (closer_of c) (more_phrases v (phrases_back no_phrases vs)))) (ks phrases_kind)
+item_stack (item.TailPart b w vs) ks = frame (λ v. goto (part.tail (separator_of b) (want_of w) (more_phrases v (phrases_back no_phrases vs)))) (ks phrases_kind)
+
+abbrev pub first_stack : FirstFrame → Below → Stack a_phrase
+first_stack (first.SeqFirst p) ks = frame (λ v. push (λ vs. done (seq_at p vs)) (goto (part.parts (grammar.only true) brackets.round (more_phrases v no_phrases)))) (ks a_phrase)
+first_stack (first.SeqBrace p) ks = frame (λ v. push (λ vs. done (seq_at p vs)) (goto (part.tail forms.semicolon (grammar.only true) (more_phrases v no_phrases)))) (ks a_phrase)
+first_stack (first.TryFirst p) ks = frame (λ v. push (λ vs. done (try_at p vs)) (goto (part.parts (grammar.only (is_deduction v)) brackets.round (more_phrases v no_phrases)))) (ks a_phrase)
+first_stack (first.TryBrace p) ks = frame (λ v. push (λ vs. done (try_at p vs)) (goto (part.tail forms.bar (grammar.only (is_deduction v)) (more_phrases v no_phrases)))) (ks a_phrase)
+
+abbrev pub row_stack : RowFrame → Below → Stack a_phrase
+row_stack (row.ClosureBody c p ns) ks = frame (λ v. done (closure_at c p ns v)) (ks a_phrase)
+row_stack (row.RowPair k p w bs n) ks = frame (row_close k p (want_of w) (rows_back no_bindings bs) n) (ks a_phrase)
+row_stack (row.Row k p w bs n) ks = frame (λ v. token (row_more k p (after_row k (want_of w) v) (more_bindings n v (rows_back no_bindings bs)))) (ks a_phrase)
+row_stack (row.LetBody k p bs) ks = frame (λ v. done (let_phrase k p (put_bindings (rows_back no_bindings bs) no_bindings) v)) (ks a_phrase)
+
+abbrev pub clause_stack : ClauseFrame → Below → Stack a_phrase
+clause_stack (clause.Scrutinee c p w) ks = frame (λ v. token (clauses_open c p (want_of w) v)) (ks a_phrase)
+clause_stack (clause.ScrutineeInside c p w) ks = frame (λ v. token (clauses_inside c p (want_of w) v)) (ks a_phrase)
+clause_stack (clause.ClausePair c p e vs m) ks = frame (clause_close c p (phrase_of e) (clauses_back no_clauses vs) (pattern_of m)) (ks a_phrase)
+clause_stack (clause.ClauseRow c p e vs m) ks = frame (λ v. token (clause_more c p (phrase_of e) (grammar.only (is_deduction v)) (more_clauses (pattern_of m) v (clauses_back no_clauses vs)))) (ks a_phrase)
+
+abbrev pub branch_stack : BranchFrame → Below → Stack a_phrase
+branch_stack (branch.BranchCondition p w bs) ks = frame (λ v. push (branch_close p (branches_back no_branches bs) v) (goto (part.phrase_part (want_of w)))) (ks a_phrase)
+branch_stack (branch.BranchPair p bs e) ks = frame (branch_close p (branches_back no_branches bs) (phrase_of e)) (ks a_phrase)
+branch_stack (branch.RowCondition p w bs) ks = frame (λ e. expect arrow_mark (push (λ v. token (branch_more p (grammar.only (is_deduction v)) (more_branches e v (branches_back no_branches bs)))) (goto (part.phrase_part (want_of w))))) (ks a_phrase)
+branch_stack (branch.BranchRow p bs e) ks = frame (λ v. token (branch_more p (grammar.only (is_deduction v)) (more_branches (phrase_of e) v (branches_back no_branches bs)))) (ks a_phrase)
+branch_stack (branch.ElsePair p bs) ks = frame (else_close p (branches_back no_branches bs)) (ks a_phrase)
+branch_stack (branch.ElseRow p bs) ks = frame (λ v. expect close_brace_mark (shallower (done (check_done p (branches_back no_branches bs) v)))) (ks a_phrase)
+
+abbrev pub sentence_stack : SentenceFrame → Below → Stack a_phrase
+sentence_stack (sentence.Sentence h p n) ks = frame (hypothesis_body h p n) (ks a_phrase)
+sentence_stack (sentence.HypothesisBody h p n e) ks = frame (λ v. done (hypothesis_at h p n (phrase_of e) v)) (ks a_phrase)
+sentence_stack (sentence.PickBody p bs) ks = frame (λ v. done (pick_any_at p (put (back bs) []) v)) (ks a_phrase)
+sentence_stack (sentence.Witness p n) ks = frame (λ g. push (λ d. done (pick_witness_at p n g d)) (goto (part.phrase_part (grammar.only true)))) (ks a_phrase)
+sentence_stack (sentence.WitnessBody p n g) ks = frame (λ d. done (pick_witness_at p n (phrase_of g) d)) (ks a_phrase)
+
+abbrev pub whole_stack : WholeFrame → Below → Stack a_phrase
+whole_stack (whole.Said p) ks = frame (phrase_said p) (ks a_directive)
+whole_stack (whole.DefineBody own p n) ks = frame (λ v. finish own (directive_at p (define_is n v))) (ks a_directive)
+whole_stack (whole.FunBody own p g ns) ks = frame (λ v. finish own (directive_at p (define_fun_is g ns v))) (ks a_directive)
+whole_stack (whole.Asserted own p closed n) ks = frame (asserted own p closed n) (ks a_directive)
+
 abbrev pub phrase_stack : PhraseFrame → Below → Stack a_phrase
-phrase_stack x.OwnPair ks = frame own_pair (ks a_phrase)
-phrase_stack x.Bare ks = frame bare_end (ks a_phrase)
-phrase_stack (x.Second p w word op) ks = frame (λ v. token (second_rule p (want_of w) word op v)) (ks a_phrase)
-phrase_stack (x.ApplyPart p g) ks = frame (λ v. push (λ vs. done (apply_at p (phrase_of g) vs)) (goto (part.parts (grammar.only false) brackets.round (more_phrases v no_phrases)))) (ks a_phrase)
-phrase_stack (x.CallHead p) ks = frame (λ v. push (λ vs. done (call_at p v vs)) (goto (part.parts grammar.any brackets.round no_phrases))) (ks a_phrase)
-phrase_stack (x.Part w c vs) ks = frame (λ v. goto (part.parts (want_of w) (closer_of c) (more_phrases v (phrases_back no_phrases vs)))) (ks phrases_kind)
-phrase_stack (x.SeqFirst p) ks = frame (λ v. push (λ vs. done (seq_at p vs)) (goto (part.parts (grammar.only true) brackets.round (more_phrases v no_phrases)))) (ks a_phrase)
-phrase_stack (x.SeqBrace p) ks = frame (λ v. push (λ vs. done (seq_at p vs)) (goto (part.tail forms.semicolon (grammar.only true) (more_phrases v no_phrases)))) (ks a_phrase)
-phrase_stack (x.TryFirst p) ks = frame (λ v. push (λ vs. done (try_at p vs)) (goto (part.parts (grammar.only (is_deduction v)) brackets.round (more_phrases v no_phrases)))) (ks a_phrase)
-phrase_stack (x.TryBrace p) ks = frame (λ v. push (λ vs. done (try_at p vs)) (goto (part.tail forms.bar (grammar.only (is_deduction v)) (more_phrases v no_phrases)))) (ks a_phrase)
-phrase_stack (x.TailPart b w vs) ks = frame (λ v. goto (part.tail (separator_of b) (want_of w) (more_phrases v (phrases_back no_phrases vs)))) (ks phrases_kind)
-phrase_stack (x.ClosureBody c p ns) ks = frame (λ v. done (closure_at c p ns v)) (ks a_phrase)
-phrase_stack (x.RowPair k p w bs n) ks = frame (row_close k p (want_of w) (rows_back no_bindings bs) n) (ks a_phrase)
-phrase_stack (x.Row k p w bs n) ks = frame (λ v. token (row_more k p (after_row k (want_of w) v) (more_bindings n v (rows_back no_bindings bs)))) (ks a_phrase)
-phrase_stack (x.LetBody k p bs) ks = frame (λ v. done (let_phrase k p (put_bindings (rows_back no_bindings bs) no_bindings) v)) (ks a_phrase)
-phrase_stack (x.Scrutinee c p w) ks = frame (λ v. token (clauses_open c p (want_of w) v)) (ks a_phrase)
-phrase_stack (x.ScrutineeInside c p w) ks = frame (λ v. token (clauses_inside c p (want_of w) v)) (ks a_phrase)
-phrase_stack (x.ClausePair c p e vs m) ks = frame (clause_close c p (phrase_of e) (clauses_back no_clauses vs) (pattern_of m)) (ks a_phrase)
-phrase_stack (x.ClauseRow c p e vs m) ks = frame (λ v. token (clause_more c p (phrase_of e) (grammar.only (is_deduction v)) (more_clauses (pattern_of m) v (clauses_back no_clauses vs)))) (ks a_phrase)
-phrase_stack (x.BranchCondition p w bs) ks = frame (λ v. push (branch_close p (branches_back no_branches bs) v) (goto (part.phrase_part (want_of w)))) (ks a_phrase)
-phrase_stack (x.BranchPair p bs e) ks = frame (branch_close p (branches_back no_branches bs) (phrase_of e)) (ks a_phrase)
-phrase_stack (x.RowCondition p w bs) ks = frame (λ e. expect arrow_mark (push (λ v. token (branch_more p (grammar.only (is_deduction v)) (more_branches e v (branches_back no_branches bs)))) (goto (part.phrase_part (want_of w))))) (ks a_phrase)
-phrase_stack (x.BranchRow p bs e) ks = frame (λ v. token (branch_more p (grammar.only (is_deduction v)) (more_branches (phrase_of e) v (branches_back no_branches bs)))) (ks a_phrase)
-phrase_stack (x.ElsePair p bs) ks = frame (else_close p (branches_back no_branches bs)) (ks a_phrase)
-phrase_stack (x.ElseRow p bs) ks = frame (λ v. expect close_brace_mark (shallower (done (check_done p (branches_back no_branches bs) v)))) (ks a_phrase)
-phrase_stack (x.Sentence h p n) ks = frame (hypothesis_body h p n) (ks a_phrase)
-phrase_stack (x.HypothesisBody h p n e) ks = frame (λ v. done (hypothesis_at h p n (phrase_of e) v)) (ks a_phrase)
-phrase_stack (x.PickBody p bs) ks = frame (λ v. done (pick_any_at p (put (back bs) []) v)) (ks a_phrase)
-phrase_stack (x.Witness p n) ks = frame (λ g. push (λ d. done (pick_witness_at p n g d)) (goto (part.phrase_part (grammar.only true)))) (ks a_phrase)
-phrase_stack (x.WitnessBody p n g) ks = frame (λ d. done (pick_witness_at p n (phrase_of g) d)) (ks a_phrase)
-phrase_stack (x.Said p) ks = frame (phrase_said p) (ks a_directive)
-phrase_stack (x.DefineBody own p n) ks = frame (λ v. finish own (directive_at p (define_is n v))) (ks a_directive)
-phrase_stack (x.FunBody own p g ns) ks = frame (λ v. finish own (directive_at p (define_fun_is g ns v))) (ks a_directive)
-phrase_stack (x.Asserted own p closed n) ks = frame (asserted own p closed n) (ks a_directive)
+phrase_stack (x.Pair w) ks = pair_stack w ks
+phrase_stack (x.Item w) ks = item_stack w ks
+phrase_stack (x.First w) ks = first_stack w ks
+phrase_stack (x.Row w) ks = row_stack w ks
+phrase_stack (x.Clause w) ks = clause_stack w ks
+phrase_stack (x.Branch w) ks = branch_stack w ks
+phrase_stack (x.Sentence w) ks = sentence_stack w ks
+phrase_stack (x.Whole w) ks = whole_stack w ks
 
 abbrev pub phrases_stack : PhrasesFrame → Below → Stack phrases_kind
 phrases_stack (xs.List p) ks = frame (λ vs. done (list_at p vs)) (ks a_phrase)

@@ -38,43 +38,91 @@ pub type Binders = Items<(Sym, Option<SortText>)>;
 /// Constructors that are read.
 pub type Constructors = Items<(Sym, Items<SortText>)>;
 
-/// What waits for a phrase.
+/// A phrase that brackets or a keyword may close.
 #[derive(Drop)]
-pub enum PhraseFrame {
+pub enum PairFrame {
     OwnPair,
     Bare,
     Second(Pos, Want, bool, bool),
+}
+
+/// A phrase of a list.
+#[derive(Drop)]
+pub enum ItemFrame {
     ApplyPart(Pos, PhraseTree),
     CallHead(Pos),
     Part(Want, Closer, Items<PhraseTree>),
+    TailPart(Separator, Want, Items<PhraseTree>),
+}
+
+/// The first phrase of a form with alternatives or deductions.
+#[derive(Drop)]
+pub enum FirstFrame {
     SeqFirst(Pos),
     SeqBrace(Pos),
     TryFirst(Pos),
     TryBrace(Pos),
-    TailPart(Separator, Want, Items<PhraseTree>),
+}
+
+/// A phrase of a closure or of bindings.
+#[derive(Drop)]
+pub enum RowFrame {
     ClosureBody(ClosureWord, Pos, Items<Sym>),
     RowPair(LetWord, Pos, Want, Rows, Sym),
     Row(LetWord, Pos, Want, Rows, Sym),
     LetBody(LetWord, Pos, Rows),
+}
+
+/// A phrase of a form with clauses.
+#[derive(Drop)]
+pub enum ClauseFrame {
     Scrutinee(ClauseWord, Pos, Want),
     ScrutineeInside(ClauseWord, Pos, Want),
     ClausePair(ClauseWord, Pos, PhraseTree, Clauses, PatternTree),
     ClauseRow(ClauseWord, Pos, PhraseTree, Clauses, PatternTree),
+}
+
+/// A phrase of a `check`.
+#[derive(Drop)]
+pub enum BranchFrame {
     BranchCondition(Pos, Want, Branches),
     BranchPair(Pos, Branches, PhraseTree),
     RowCondition(Pos, Want, Branches),
     BranchRow(Pos, Branches, PhraseTree),
     ElsePair(Pos, Branches),
     ElseRow(Pos, Branches),
+}
+
+/// A phrase of a form with a sentence or with names.
+#[derive(Drop)]
+pub enum SentenceFrame {
     Sentence(HypothesisWord, Pos, Option<Sym>),
     HypothesisBody(HypothesisWord, Pos, Option<Sym>, PhraseTree),
     PickBody(Pos, Binders),
     Witness(Pos, Sym),
     WitnessBody(Pos, Sym, PhraseTree),
+}
+
+/// The phrase of a directive.
+#[derive(Drop)]
+pub enum WholeFrame {
     Said(Pos),
     DefineBody(bool, Pos, Sym),
     FunBody(bool, Pos, Sym, Items<Sym>),
     Asserted(bool, Pos, bool, Option<Sym>),
+}
+
+/// What waits for a phrase.
+#[derive(Drop)]
+pub enum PhraseFrame {
+    Pair(PairFrame),
+    Item(ItemFrame),
+    First(FirstFrame),
+    Row(RowFrame),
+    Clause(ClauseFrame),
+    Branch(BranchFrame),
+    Sentence(SentenceFrame),
+    Whole(WholeFrame),
 }
 
 /// What waits for a list of phrases.

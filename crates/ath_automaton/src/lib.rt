@@ -2,7 +2,9 @@
 #![tactic(auto)]
 
 pub mod frame;
+pub mod kind;
 pub mod resume;
+pub mod resume_phrase;
 pub mod small;
 pub mod state;
 pub mod tree;

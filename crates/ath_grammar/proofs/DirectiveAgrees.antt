@@ -2,28 +2,25 @@
 use Rattle.std.proofs.Common.{◌≡◌, ℕ, List, [], ◌∷◌, Bool, true, false, Option, Some, None, refl}
 use Rattle.ath_sorts.specs.declared.sorts.Sym.{Sym}
 use Rattle.ath_syntax.specs.declared.place.Pos.{Pos}
-use Rattle.ath_syntax.specs.declared.node.SortText.{SortText, Con as sort_con}
-use Rattle.ath_syntax.specs.Tree.{Phrase, DirectiveTree, directive_at, domain_is, datatype_is, declare_is, define_is, define_fun_is, assert_is, load_is, phrase_is, name_at}
+use Rattle.ath_syntax.specs.declared.node.SortText.{SortText}
+use Rattle.ath_syntax.specs.Tree.{Phrase, DirectiveTree, directive_at, domain_is, declare_is, define_is, define_fun_is, assert_is, load_is, phrase_is, name_at}
 use Rattle.ath_grammar.specs.declared.lexeme.DirectiveWord.{DirectiveWord}
 use Rattle.ath_grammar.specs.declared.lexeme.DirectiveWord.TheVariants.{Domain, Datatype, Declare, Define, Assert, Load, Other}
-use Rattle.ath_grammar.specs.declared.lexeme.WordClass.{WordClass}
-use Rattle.ath_grammar.specs.declared.lexeme.WordClass.TheVariants.{Plain, Dotted, Logical, Infix, Tilde, Back}
+use Rattle.ath_grammar.specs.declared.lexeme.WordClass.TheVariants.{Plain}
 use Rattle.ath_grammar.specs.declared.lexeme.Lexeme.{Lexeme}
-use Rattle.ath_grammar.specs.declared.lexeme.Lexeme.TheVariants.{Word, Directive, To, SortVar, Str, Becomes, Open, Close, OpenBracket, Bar, Comma, Colon}
+use Rattle.ath_grammar.specs.declared.lexeme.Lexeme.TheVariants.{Word, Directive, Str, Becomes, Open, Close}
 use Rattle.ath_grammar.specs.Kinds.{any, only}
-use Rattle.ath_grammar.specs.Tokens.{Placed, at, is_bar, starts, starts_becomes, names_sentence}
-use Rattle.ath_grammar.specs.Small.{round, square, is_path, SpellsSort, sort_is_name, sort_is_var, sort_is_con, SpellsSorts, SpellsParams, SpellsVars, vars_end, vars_more}
+use Rattle.ath_grammar.specs.Tokens.{Placed, at, starts_becomes, names_sentence}
+use Rattle.ath_grammar.specs.Small.{SpellsParams}
 use Rattle.ath_grammar.specs.Phrases.{SpellsPhrase, name}
-use Rattle.ath_grammar.specs.Directives.{SpellsHeader, header_plain, header_vars, SpellsConstructor, constructor_plain, constructor_sorts, SpellsConstructorList, constructor_list_end, constructor_list_more, SpellsAlternatives, alternatives_last, alternatives_more, SpellsNames, names_last, names_more, SpellsNameList, name_list_end, name_list_more, SpellsGroup, group_one, group_list, SpellsType, type_sort, type_brackets, type_arrow, SpellsSignature, signature_plain, signature_params, SpellsDirective, domain_paired, domain, datatype_paired, datatype, declare_paired, declare, define_paired, define, define_fun_paired, define_fun, assert_paired, assert, assert_named, load_paired, load, phrase}
+use Rattle.ath_grammar.specs.Directives.{SpellsHeader, SpellsConstructor, name_list_more, SpellsGroup, group_one, group_list, SpellsSignature, SpellsDirective, domain_paired, domain, datatype_paired, datatype, declare_paired, declare, define_paired, define, define_fun_paired, define_fun, assert_paired, assert, assert_named, load_paired, load, phrase}
 use Rattle.ath_grammar.specs.Lists.{put}
-use Rattle.ath_grammar.specs.Rules.{Kind, a_directive, a_header, a_constructor, Header, Constructor, phrase_part, inside, sort_part, sorts, params, vars, header_part, constructor_part, constructor_list, alternatives, names, name_list, directive_part, Rule, done, refuse, token, peek, goto, push, check, deeper, shallower}
-use Rattle.ath_grammar.specs.SmallRules.{when, unless, close_mark, open_mark, to_mark, becomes_mark, expect, sort_rule}
-use Rattle.ath_grammar.specs.PhraseRules.{phrase_rule, inside_rule}
-use Rattle.ath_grammar.specs.DirectiveRules.{finish, equals, header_var, header_name, header_rule, constructor_name, constructor_rule, constructor_list_rule, after_constructor, alternative, alternatives_bar, declared_as, type_inside, type_rule, signature_inside, signature_rule, after_declared, names_rule, name_list_rule, group_first, group_rule, fun_name, define_rule, asserted, assert_becomes, assert_rule, load_rule, keyword_rule, phrase_said, directive_inside, directive_rule}
-use Rattle.ath_grammar.proofs.Meaning.{Image, image, AlternativesOn, alternatives_on, NamesOn, names_on, NameListOn, name_list_on, Whole, wholly, Means}
+use Rattle.ath_grammar.specs.Rules.{a_directive, Header, Constructor, phrase_part, Rule, token, peek, goto, push}
+use Rattle.ath_grammar.specs.SmallRules.{becomes_mark}
+use Rattle.ath_grammar.specs.DirectiveRules.{finish, alternative, group_first, group_rule, fun_name, define_rule, asserted, assert_becomes, assert_rule, load_rule, keyword_rule, directive_inside, directive_rule}
+use Rattle.ath_grammar.proofs.Meaning.{Image, image, NamesOn, names_on, NameListOn, name_list_on, Whole, wholly, Means}
 use Rattle.ath_grammar.proofs.Steps.{allowed_true}
-use Rattle.ath_grammar.proofs.Expects.{Marked, marked_close, marked_open, marked_to, marked_becomes, expect_sound, when_sound, when_complete, unless_sound, unless_complete}
-use Rattle.ath_grammar.proofs.SmallParts.{sort_sound, sort_complete}
+use Rattle.ath_grammar.proofs.Expects.{Marked, marked_becomes, expect_sound}
 use Rattle.ath_grammar.proofs.PhraseSound.{phrase_sound, inside_sound}
 use Rattle.ath_grammar.proofs.PhraseComplete.{phrase_complete, inside_complete}
 use Rattle.ath_grammar.proofs.DirectiveParts.{Finished, finished_bare, finished_own, Equated, equated_bare, equated_own, ListOn, Alternatives, SignatureOn, signature_on, finish_sound, finish_complete, equals_sound, equals_complete, alternative_sound, alternative_complete, signature_sound, signature_complete}

@@ -1,31 +1,22 @@
 -- The rules of directives say what the grammar says.
-use Rattle.std.proofs.Common.{◌≡◌, ℕ, List, [], ◌∷◌, Bool, true, false, Option, Some, None, refl}
+use Rattle.std.proofs.Common.{◌≡◌, List, [], ◌∷◌, Bool, true, false, Option, Some, None, refl}
 use Rattle.ath_sorts.specs.declared.sorts.Sym.{Sym}
 use Rattle.ath_syntax.specs.declared.place.Pos.{Pos}
 use Rattle.ath_syntax.specs.declared.node.SortText.{SortText, Con as sort_con}
-use Rattle.ath_syntax.specs.Tree.{Phrase, DirectiveTree, directive_at, domain_is, datatype_is, declare_is, define_is, define_fun_is, assert_is, load_is, phrase_is, name_at}
-use Rattle.ath_grammar.specs.declared.lexeme.DirectiveWord.{DirectiveWord}
-use Rattle.ath_grammar.specs.declared.lexeme.DirectiveWord.TheVariants.{Domain, Datatype, Declare, Define, Assert, Load, Other}
+use Rattle.ath_syntax.specs.Tree.{DirectiveTree, directive_at, datatype_is, declare_is}
 use Rattle.ath_grammar.specs.declared.lexeme.WordClass.{WordClass}
-use Rattle.ath_grammar.specs.declared.lexeme.WordClass.TheVariants.{Plain, Dotted, Logical, Infix, Tilde, Back}
-use Rattle.ath_grammar.specs.declared.lexeme.Lexeme.{Lexeme}
-use Rattle.ath_grammar.specs.declared.lexeme.Lexeme.TheVariants.{Word, Directive, To, SortVar, Str, Becomes, Open, Close, OpenBracket, Bar, Comma, Colon}
-use Rattle.ath_grammar.specs.Kinds.{any, only}
-use Rattle.ath_grammar.specs.Tokens.{Placed, at, is_bar, starts, starts_becomes, names_sentence}
-use Rattle.ath_grammar.specs.Small.{round, square, is_path, SpellsSort, sort_is_name, sort_is_var, sort_is_con, SpellsSorts, SpellsParams, SpellsVars, vars_end, vars_more}
-use Rattle.ath_grammar.specs.Phrases.{SpellsPhrase, name}
-use Rattle.ath_grammar.specs.Directives.{SpellsHeader, header_plain, header_vars, SpellsConstructor, constructor_plain, constructor_sorts, SpellsConstructorList, constructor_list_end, constructor_list_more, SpellsAlternatives, alternatives_last, alternatives_more, SpellsNames, names_last, names_more, SpellsNameList, name_list_end, name_list_more, SpellsGroup, group_one, group_list, SpellsType, type_sort, type_brackets, type_arrow, SpellsSignature, signature_plain, signature_params, SpellsDirective, domain_paired, domain, datatype_paired, datatype, declare_paired, declare, define_paired, define, define_fun_paired, define_fun, assert_paired, assert, assert_named, load_paired, load, phrase}
+use Rattle.ath_grammar.specs.declared.lexeme.WordClass.TheVariants.{Plain}
+use Rattle.ath_grammar.specs.declared.lexeme.Lexeme.TheVariants.{Word, To, SortVar, Becomes, Open, Close, OpenBracket, Bar, Comma, Colon}
+use Rattle.ath_grammar.specs.Tokens.{Placed, at, is_bar, starts}
+use Rattle.ath_grammar.specs.Small.{round, square, is_path, SpellsSort, sort_is_name, sort_is_var, sort_is_con, SpellsSorts, SpellsVars, vars_end, vars_more}
+use Rattle.ath_grammar.specs.Directives.{SpellsHeader, header_plain, header_vars, SpellsConstructor, constructor_plain, constructor_sorts, SpellsConstructorList, constructor_list_end, constructor_list_more, SpellsAlternatives, alternatives_last, alternatives_more, names_last, names_more, name_list_end, name_list_more, SpellsType, type_sort, type_brackets, type_arrow, SpellsSignature, signature_plain, signature_params}
 use Rattle.ath_grammar.specs.Lists.{put}
-use Rattle.ath_grammar.specs.Rules.{Kind, a_directive, a_header, a_constructor, Header, Constructor, phrase_part, inside, sort_part, sorts, params, vars, header_part, constructor_part, constructor_list, alternatives, names, name_list, directive_part, Rule, done, refuse, token, peek, goto, push, check, deeper, shallower}
-use Rattle.ath_grammar.specs.SmallRules.{when, unless, close_mark, open_mark, to_mark, becomes_mark, expect, sort_rule}
-use Rattle.ath_grammar.specs.PhraseRules.{phrase_rule, inside_rule}
-use Rattle.ath_grammar.specs.DirectiveRules.{finish, equals, header_var, header_name, header_rule, constructor_name, constructor_rule, constructor_list_rule, after_constructor, alternative, alternatives_bar, declared_as, type_inside, type_rule, signature_inside, signature_rule, after_declared, names_rule, name_list_rule, group_first, group_rule, fun_name, define_rule, asserted, assert_becomes, assert_rule, load_rule, keyword_rule, phrase_said, directive_inside, directive_rule}
+use Rattle.ath_grammar.specs.Rules.{a_directive, Header, Constructor, sort_part, sorts, Rule, done, token, peek, goto, push, deeper, shallower}
+use Rattle.ath_grammar.specs.SmallRules.{when, close_mark, open_mark, to_mark, becomes_mark, expect}
+use Rattle.ath_grammar.specs.DirectiveRules.{finish, equals, header_var, header_name, header_rule, constructor_name, constructor_rule, constructor_list_rule, after_constructor, alternative, alternatives_bar, declared_as, type_inside, type_rule, signature_inside, signature_rule, after_declared, names_rule, name_list_rule}
 use Rattle.ath_grammar.proofs.Meaning.{Image, image, AlternativesOn, alternatives_on, NamesOn, names_on, NameListOn, name_list_on, Whole, wholly, Means}
-use Rattle.ath_grammar.proofs.Steps.{allowed_true}
-use Rattle.ath_grammar.proofs.Expects.{Marked, marked_close, marked_open, marked_to, marked_becomes, expect_sound, when_sound, when_complete, unless_sound, unless_complete}
+use Rattle.ath_grammar.proofs.Expects.{Marked, marked_close, marked_open, marked_to, marked_becomes, expect_sound, when_sound, when_complete}
 use Rattle.ath_grammar.proofs.SmallParts.{sort_sound, sort_complete}
-use Rattle.ath_grammar.proofs.PhraseSound.{phrase_sound, inside_sound}
-use Rattle.ath_grammar.proofs.PhraseComplete.{phrase_complete, inside_complete}
 
 -- the end of a directive, and the bracket behind it where it has its own pair
 pub data Finished : Bool → DirectiveTree → List Placed → DirectiveTree → List Placed → Type 0 where
@@ -191,7 +182,7 @@ module _ (a : Bool) where
   con_sound : (own : Bool) (p : Pos) (ns : List Sym) (vs : Option (List Sym)) (o q : Pos) (c : WordClass) (n : Sym) (ts : List Placed) (v : DirectiveTree) (r : List Placed) → Means a (con_rule own p ns vs c n) ts v r → TypeOn own p ns vs (at o Open ∷ at q (Word c n) ∷ ts) v r
   con_sound own p ns vs o q c n ts v r h =
       let (e, (ss, mid, k, d)) = when_sound a (push (λ ss. declared_as own p ns vs [] (sort_con n ss)) (goto (sorts round []))) v r (is_path c) ts h in
-        sort_case own p ns vs (sort_con n ss) (at o Open ∷ at q (Word c n) ∷ ts) mid v r (con_sorts e k) d
+      sort_case own p ns vs (sort_con n ss) (at o Open ∷ at q (Word c n) ∷ ts) mid v r (con_sorts e k) d
 
   arrow_case : (p : Pos) (ns : List Sym) (vs : Option (List Sym)) (o q : Pos) {ts us m ms n r : List Placed} {ss : List SortText} {s : SortText} {v : DirectiveTree} → Marked open_mark ts us → Image (put []) (λ ys. SpellsSorts round us ys m) ss → SpellsSort m s ms → Marked close_mark ms n → Finished true (directive_at p (declare_is (put ns []) vs ss s)) n v r → TypeOn true p ns vs (at o Open ∷ at q To ∷ ts) v r
   arrow_case p ns vs o q marked_open (image h) hs marked_close f = type_on (type_arrow h hs) f
@@ -204,7 +195,7 @@ module _ (a : Bool) where
   type_inside_sound true p ns vs o (at q To ∷ ts) v r h =
       let (us, m, (ss, n, k, (s, l, hs, c))) = expect_sound a (arrow_rest p ns vs) v r open_mark ts h in
       let (ms, z, d) = expect_sound {k = a_directive} a (shallower (declared_as true p ns vs ss s)) v r close_mark l c in
-        arrow_case p ns vs o q m k hs z (finish_sound true (directive_at p (declare_is (put ns []) vs ss s)) ms v r d)
+      arrow_case p ns vs o q m k hs z (finish_sound true (directive_at p (declare_is (put ns []) vs ss s)) ms v r d)
   type_inside_sound true p ns vs o (at q (Word c n) ∷ ts) v r h = con_sound true p ns vs o q c n ts v r h
   type_inside_sound false p ns vs o (at q (Word c n) ∷ ts) v r h = con_sound false p ns vs o q c n ts v r h
   type_inside_sound own p ns vs o (at q t ∷ ts) v r h = absurd h
@@ -217,7 +208,7 @@ module _ (a : Bool) where
   type_sound own p ns vs (at o Open ∷ ts) v r h = type_inside_sound own p ns vs o ts v r h
   type_sound false p ns vs (at o OpenBracket ∷ ts) v r (ss, m, k, h) =
       let (us, t, (s, mid, hs, d)) = expect_sound {k = a_directive} a (push (declared_as false p ns vs ss) (goto sort_part)) v r to_mark m h in
-        brackets_case p ns vs o k t hs (finish_sound false (directive_at p (declare_is (put ns []) vs ss s)) mid v r d)
+      brackets_case p ns vs o k t hs (finish_sound false (directive_at p (declare_is (put ns []) vs ss s)) mid v r d)
   type_sound true p ns vs (at o t ∷ ts) v r (s, mid, hs, h) = sort_case true p ns vs s (at o t ∷ ts) mid v r (sort_sound a (at o t ∷ ts) s mid hs) h
   type_sound false p ns vs (at o t ∷ ts) v r (s, mid, hs, h) = sort_case false p ns vs s (at o t ∷ ts) mid v r (sort_sound a (at o t ∷ ts) s mid hs) h
 

@@ -1,9 +1,9 @@
 -- What the tokens after a rule spell.
-use Rattle.std.specs.Prelude.{◌≡◌, ℕ, List, [], ◌∷◌, Bool, true, false, Option, Some, None}
+use Rattle.std.specs.Prelude.{◌≡◌, List, [], ◌∷◌, Bool, true, false, Option}
 use Rattle.ath_sorts.specs.declared.sorts.Sym.{Sym}
 use Rattle.ath_syntax.specs.declared.place.Pos.{Pos}
 use Rattle.ath_syntax.specs.declared.node.SortText.{SortText}
-use Rattle.ath_syntax.specs.Tree.{Pattern, Binder, Phrase, Phrases, more_phrases, Bindings, Clauses, Branches, Otherwise, DirectiveTree, directive_at, datatype_is, declare_is, check_at, try_at, pick_any_at, name_at, is_deduction}
+use Rattle.ath_syntax.specs.Tree.{Binder, Phrase, Phrases, more_phrases, Bindings, Branches, Otherwise, DirectiveTree, directive_at, datatype_is, declare_is, check_at, try_at, pick_any_at, name_at, is_deduction}
 use Rattle.ath_grammar.specs.declared.lexeme.LetWord.{LetWord}
 use Rattle.ath_grammar.specs.declared.lexeme.FormWord.TheVariants.{Try, Hypothesis}
 use Rattle.ath_grammar.specs.declared.lexeme.WordClass.TheVariants.{Plain}

@@ -1,32 +1,30 @@
 -- What is in the grammar of phrases is read by the rules.
-use Rattle.std.proofs.Common.{◌≡◌, ℕ, List, [], ◌∷◌, Bool, true, false, Option, Some, None, refl, if◌then◌else◌}
+use Rattle.std.proofs.Common.{◌≡◌, ℕ, List, [], ◌∷◌, Bool, true, false, Some, None, refl, if◌then◌else◌}
 use Rattle.ath_sorts.specs.declared.sorts.Sym.{Sym}
 use Rattle.ath_syntax.specs.declared.place.Pos.{Pos}
 use Rattle.ath_syntax.specs.declared.node.SortText.{SortText}
-use Rattle.ath_syntax.specs.Tree.{Pattern, Binder, Phrase, name_at, variable_at, string_at, list_at, ascribe_at, apply_at, call_at, check_at, try_at, seq_at, pick_any_at, pick_witness_at, Phrases, no_phrases, more_phrases, Bindings, no_bindings, more_bindings, Clauses, no_clauses, more_clauses, Branches, no_branches, more_branches, Otherwise, no_else, else_phrase, is_deduction}
-use Rattle.ath_grammar.specs.declared.lexeme.ClosureWord.{ClosureWord}
+use Rattle.ath_syntax.specs.Tree.{Binder, Phrase, name_at, variable_at, ascribe_at, apply_at, check_at, try_at, pick_any_at, Phrases, no_phrases, more_phrases, Bindings, no_bindings, more_bindings, Clauses, no_clauses, Branches, more_branches, Otherwise, is_deduction}
 use Rattle.ath_grammar.specs.declared.lexeme.ClauseWord.{ClauseWord}
 use Rattle.ath_grammar.specs.declared.lexeme.HypothesisWord.{HypothesisWord}
 use Rattle.ath_grammar.specs.declared.lexeme.LetWord.{LetWord}
 use Rattle.ath_grammar.specs.declared.lexeme.LetWord.TheVariants.{Let, LetDeduction, LetRec}
 use Rattle.ath_grammar.specs.declared.lexeme.FormWord.{FormWord}
 use Rattle.ath_grammar.specs.declared.lexeme.FormWord.TheVariants.{Closure, Let as LetForm, Clauses as ClausesForm, Check, Try, Begin, Hypothesis, PickAny, PickWitness}
-use Rattle.ath_grammar.specs.declared.lexeme.WordClass.{WordClass}
-use Rattle.ath_grammar.specs.declared.lexeme.WordClass.TheVariants.{Plain, Dotted, Logical, Infix, Tilde, Back}
+use Rattle.ath_grammar.specs.declared.lexeme.WordClass.TheVariants.{Plain}
 use Rattle.ath_grammar.specs.declared.lexeme.Lexeme.{Lexeme}
-use Rattle.ath_grammar.specs.declared.lexeme.Lexeme.TheVariants.{Word, Form, Else, Arrow, Var, Str, Becomes, Open, Close, OpenBracket, CloseBracket, OpenBrace, CloseBrace, Bar, Semicolon, Bang, Colon}
+use Rattle.ath_grammar.specs.declared.lexeme.Lexeme.TheVariants.{Word, Form, Else, Arrow, Becomes, Open, Close, CloseBracket, OpenBrace, CloseBrace, Bar, Semicolon, Bang, Colon}
 use Rattle.ath_grammar.specs.Kinds.{Want, any, only, same_kind, fits, allowed, Fits, IsExpression, bound}
 use Rattle.ath_grammar.specs.Tokens.{Placed, at, is_first_item, is_operator, is_word, is_name, is_brace, is_colon, begins_phrase, goes_on, starts, clashes}
-use Rattle.ath_grammar.specs.Small.{Closer, round, square, Closes, closes_round, closes_square, SpellsSort, SpellsPattern, SpellsParams}
-use Rattle.ath_grammar.specs.Phrases.{closure_at, body_deduces, hypothesis_at, clauses_at, clause_want, clause_fits, let_phrase, let_want, let_fits, is_rec, repeats, after_row, Separator, semicolon, bar, Separates, separates_semicolon, separates_bar, SpellsBinders, binders_bare, binders_sort, binders_bare_more, binders_sort_more, SpellsPhrase, name, variable, variable_sort, string, list, ascribe, apply_none, apply, parens, call, clauses_pairs, check_pairs, try_parts, seq_parts, seq_braces, bare, paired, SpellsForm, closure, let_pairs, let_braces, clauses_braces, check_braces, try_braces, hypothesis, hypothesis_named, pick_any, pick_any_name, pick_witness, SpellsParts, parts_end, parts_more, SpellsTail, tail_end, tail_more, SpellsBound, bound_phrase, bound_closure, SpellsClosure, closure_bare, closure_paired, closure_parens, SpellsRowPairs, row_pairs_end, row_pairs_more, SpellsRows, rows_last, rows_more, SpellsClausePairs, clause_pairs_end, clause_pairs_more, SpellsClauses, clauses_last, clauses_more, SpellsBranchPairs, branch_pairs_end, branch_pairs_else, branch_pairs_more, SpellsBranches, branches_last, branches_else, branches_more}
+use Rattle.ath_grammar.specs.Small.{Closer, round, square, Closes, closes_round, closes_square, SpellsSort}
+use Rattle.ath_grammar.specs.Phrases.{hypothesis_at, clauses_at, clause_want, let_phrase, let_want, is_rec, repeats, after_row, Separator, semicolon, bar, Separates, separates_semicolon, separates_bar, SpellsBinders, binders_bare, binders_sort, binders_bare_more, binders_sort_more, SpellsPhrase, name, variable, variable_sort, string, list, ascribe, apply_none, apply, parens, call, clauses_pairs, check_pairs, try_parts, seq_parts, seq_braces, bare, paired, SpellsForm, closure, let_pairs, let_braces, clauses_braces, check_braces, try_braces, hypothesis, hypothesis_named, pick_any, pick_any_name, pick_witness, SpellsParts, parts_end, parts_more, SpellsTail, tail_end, tail_more, SpellsBound, bound_phrase, bound_closure, SpellsClosure, closure_bare, closure_paired, closure_parens, SpellsRowPairs, row_pairs_end, row_pairs_more, rows_last, rows_more, SpellsClausePairs, clause_pairs_end, clause_pairs_more, SpellsClauses, clauses_last, clauses_more, SpellsBranchPairs, branch_pairs_end, branch_pairs_else, branch_pairs_more, branches_last, branches_else, branches_more}
 use Rattle.ath_grammar.specs.Lists.{put, put_phrases, put_bindings, put_clauses, put_branches, names_of}
-use Rattle.ath_grammar.specs.Rules.{Kind, a_phrase, phrases_kind, Value, phrase_part, inside, hypothesis_first, try_inside, parts, tail, sort_part, pattern_part, params, binders, closure_part, closure_inside, row_pairs, rows, clause_pairs, clause_rows, branch_pairs, branch_inside, branch_rows, Rule, done, refuse, token, peek, goto, push, check, deeper, shallower}
-use Rattle.ath_grammar.specs.SmallRules.{when, unless, close_mark, close_brace_mark, open_mark, arrow_mark, becomes_mark, expect, sort_rule, pattern_rule}
-use Rattle.ath_grammar.specs.PhraseRules.{after_var, own_pair, bare_end, alternatives_rule, params_open, bound_rule, row_close, row_name, let_body, row_pairs_rule, row_more, rows_rule, let_open, clause_close, clause_inside, clause_pairs_rule, clause_more, clause_rows_rule, clauses_open, clauses_inside, check_done, branch_close, else_close, branch_pairs_rule, branch_more, check_open, check_inside, try_open, pick_body, pick_last, after_sorted, after_name, binders_rule, witness_name, form_rule, paired_rule, phrase_rule, heads, apply_rule, second_rule, inside_rule, parts_rule, tail_rule, hypothesis_body, hypothesis_becomes, hypothesis_rule, try_inside_rule, closure_inside_rule, closure_rule, branch_inside_rule, branch_rows_rule}
-use Rattle.ath_grammar.proofs.Meaning.{Image, image, TryOn, try_on_parts, try_on_form, BindersOn, binders_on, binders_on_name, binders_on_last, RowPairsOn, row_pairs_on, RowsOn, rows_on, BranchPairsOn, branch_pairs_on, BranchInsideOn, branch_inside_on, BranchRowsOn, branch_rows_on, Whole, wholly, Means}
+use Rattle.ath_grammar.specs.Rules.{a_phrase, phrase_part, Rule, done, token, peek, goto, push, check}
+use Rattle.ath_grammar.specs.SmallRules.{unless, arrow_mark, becomes_mark, expect}
+use Rattle.ath_grammar.specs.PhraseRules.{after_var, bound_rule, row_close, row_name, row_pairs_rule, row_more, rows_rule, let_open, clause_inside, clause_pairs_rule, clause_rows_rule, branch_close, branch_pairs_rule, branch_more, check_inside, pick_body, pick_last, after_sorted, after_name, binders_rule, form_rule, paired_rule, phrase_rule, heads, apply_rule, second_rule, inside_rule, parts_rule, tail_rule, hypothesis_body, hypothesis_becomes, hypothesis_rule, try_inside_rule, closure_inside_rule, closure_rule, branch_inside_rule, branch_rows_rule}
+use Rattle.ath_grammar.proofs.Meaning.{Image, image, TryOn, try_on_parts, try_on_form, BindersOn, binders_on, binders_on_name, binders_on_last, RowPairsOn, row_pairs_on, RowsOn, rows_on, BranchPairsOn, branch_pairs_on, BranchInsideOn, branch_inside_on, BranchRowsOn, branch_rows_on, wholly, Means}
 use Rattle.ath_grammar.proofs.Steps.{allowed_true}
-use Rattle.ath_grammar.proofs.Expects.{Marked, marked_close, marked_close_brace, marked_open, marked_arrow, marked_becomes, expect_sound, when_sound, when_complete, unless_sound, unless_complete}
-use Rattle.ath_grammar.proofs.SmallParts.{sort_complete, pattern_complete}
+use Rattle.ath_grammar.proofs.Expects.{when_complete, unless_complete}
+use Rattle.ath_grammar.proofs.SmallParts.{pattern_complete}
 
 allowed_loosely : (a b : Bool) → a ≡ false → allowed a b ≡ true
 allowed_loosely true b e = cc
@@ -354,8 +352,8 @@ module _ (a : Bool) where
   apply_complete p w q t f [] m x xs r e g c hx k = elim hx [ ]
   apply_complete p w q t f (at z u ∷ us) m x xs r e g c hx k =
       other_complete p w (is_word t) (is_operator t) f z u us m x (apply_at p f (more_phrases x xs)) r hx
-        (unless_complete a (check (heads w f) (apply_rule p f (at z u))) (apply_at p f (more_phrases x xs)) r (clashes (is_operator t) (is_operator u)) us c
-          (allowed_if a (fits w false) (same_kind false (is_deduction f)) e g, (x, m, phrase_complete (only false) (at z u ∷ us) x m hx, (more_phrases x xs, r, image k, wholly))))
+      (unless_complete a (check (heads w f) (apply_rule p f (at z u))) (apply_at p f (more_phrases x xs)) r (clashes (is_operator t) (is_operator u)) us c
+      (allowed_if a (fits w false) (same_kind false (is_deduction f)) e g, (x, m, phrase_complete (only false) (at z u ∷ us) x m hx, (more_phrases x xs, r, image k, wholly))))
 
   pub inside_complete : (p : Pos) (w : Want) (ts : List Placed) (v : Phrase) (r : List Placed) → SpellsPhrase a w (at p Open ∷ ts) v r → Means a (token (inside_rule p w)) ts v r
   inside_complete p w ts v r (ascribe {q = q} {o = o} {z = z} {t = t} {ts = us} {mid = mid} {x = x} {s = s} e h f g k) =

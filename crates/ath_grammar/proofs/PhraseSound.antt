@@ -1,9 +1,9 @@
 -- What the rules of phrases read is in the grammar.
-use Rattle.std.proofs.Common.{◌≡◌, ℕ, List, [], ◌∷◌, Bool, true, false, Option, Some, None, refl, if◌then◌else◌}
+use Rattle.std.proofs.Common.{◌≡◌, ℕ, List, [], ◌∷◌, Bool, true, false, Some, None, refl, if◌then◌else◌}
 use Rattle.ath_sorts.specs.declared.sorts.Sym.{Sym}
 use Rattle.ath_syntax.specs.declared.place.Pos.{Pos}
 use Rattle.ath_syntax.specs.declared.node.SortText.{SortText}
-use Rattle.ath_syntax.specs.Tree.{Pattern, Binder, Phrase, name_at, variable_at, string_at, list_at, ascribe_at, apply_at, call_at, check_at, try_at, seq_at, pick_any_at, pick_witness_at, Phrases, no_phrases, more_phrases, Bindings, no_bindings, more_bindings, Clauses, no_clauses, more_clauses, Branches, no_branches, more_branches, Otherwise, no_else, else_phrase, is_deduction}
+use Rattle.ath_syntax.specs.Tree.{Pattern, Binder, Phrase, name_at, variable_at, string_at, list_at, ascribe_at, apply_at, call_at, check_at, try_at, seq_at, pick_any_at, pick_witness_at, Phrases, no_phrases, more_phrases, Bindings, no_bindings, more_bindings, Clauses, no_clauses, more_clauses, Branches, no_branches, more_branches, Otherwise, no_else, is_deduction}
 use Rattle.ath_grammar.specs.declared.lexeme.ClosureWord.{ClosureWord}
 use Rattle.ath_grammar.specs.declared.lexeme.ClauseWord.{ClauseWord}
 use Rattle.ath_grammar.specs.declared.lexeme.HypothesisWord.{HypothesisWord}
@@ -12,20 +12,20 @@ use Rattle.ath_grammar.specs.declared.lexeme.LetWord.TheVariants.{Let, LetDeduct
 use Rattle.ath_grammar.specs.declared.lexeme.FormWord.{FormWord}
 use Rattle.ath_grammar.specs.declared.lexeme.FormWord.TheVariants.{Closure, Let as LetForm, Clauses as ClausesForm, Check, Try, Begin, Hypothesis, PickAny, PickWitness}
 use Rattle.ath_grammar.specs.declared.lexeme.WordClass.{WordClass}
-use Rattle.ath_grammar.specs.declared.lexeme.WordClass.TheVariants.{Plain, Dotted, Logical, Infix, Tilde, Back}
+use Rattle.ath_grammar.specs.declared.lexeme.WordClass.TheVariants.{Plain}
 use Rattle.ath_grammar.specs.declared.lexeme.Lexeme.{Lexeme}
 use Rattle.ath_grammar.specs.declared.lexeme.Lexeme.TheVariants.{Word, Form, Else, Arrow, Var, Str, Becomes, Open, Close, OpenBracket, CloseBracket, OpenBrace, CloseBrace, Bar, Semicolon, Bang, Colon}
-use Rattle.ath_grammar.specs.Kinds.{Want, any, only, same_kind, fits, allowed, Fits, IsExpression, bound}
+use Rattle.ath_grammar.specs.Kinds.{Want, any, only, same_kind, fits, allowed, Fits, IsExpression}
 use Rattle.ath_grammar.specs.Tokens.{Placed, at, is_first_item, is_operator, is_word, is_name, is_brace, is_colon, begins_phrase, goes_on, starts, clashes}
 use Rattle.ath_grammar.specs.Small.{Closer, round, square, Closes, closes_round, closes_square, SpellsSort, SpellsPattern, SpellsParams}
-use Rattle.ath_grammar.specs.Phrases.{closure_at, body_deduces, hypothesis_at, clauses_at, clause_want, clause_fits, let_phrase, let_want, let_fits, is_rec, repeats, after_row, Separator, semicolon, bar, Separates, separates_semicolon, separates_bar, SpellsBinders, binders_bare, binders_sort, binders_bare_more, binders_sort_more, SpellsPhrase, name, variable, variable_sort, string, list, ascribe, apply_none, apply, parens, call, clauses_pairs, check_pairs, try_parts, seq_parts, seq_braces, bare, paired, SpellsForm, closure, let_pairs, let_braces, clauses_braces, check_braces, try_braces, hypothesis, hypothesis_named, pick_any, pick_any_name, pick_witness, SpellsParts, parts_end, parts_more, SpellsTail, tail_end, tail_more, SpellsBound, bound_phrase, bound_closure, SpellsClosure, closure_bare, closure_paired, closure_parens, SpellsRowPairs, row_pairs_end, row_pairs_more, SpellsRows, rows_last, rows_more, SpellsClausePairs, clause_pairs_end, clause_pairs_more, SpellsClauses, clauses_last, clauses_more, SpellsBranchPairs, branch_pairs_end, branch_pairs_else, branch_pairs_more, SpellsBranches, branches_last, branches_else, branches_more}
+use Rattle.ath_grammar.specs.Phrases.{closure_at, body_deduces, hypothesis_at, clauses_at, clause_want, clause_fits, let_phrase, let_want, let_fits, repeats, after_row, Separator, semicolon, bar, Separates, separates_semicolon, separates_bar, SpellsBinders, binders_bare, binders_sort, binders_bare_more, binders_sort_more, SpellsPhrase, name, variable, variable_sort, string, list, ascribe, apply_none, apply, parens, call, clauses_pairs, check_pairs, try_parts, seq_parts, seq_braces, bare, paired, SpellsForm, closure, let_pairs, let_braces, clauses_braces, check_braces, try_braces, hypothesis, hypothesis_named, pick_any, pick_any_name, pick_witness, SpellsParts, parts_end, parts_more, SpellsTail, tail_end, tail_more, SpellsBound, bound_phrase, bound_closure, SpellsClosure, closure_bare, closure_paired, closure_parens, row_pairs_end, row_pairs_more, rows_last, rows_more, SpellsClausePairs, clause_pairs_end, clause_pairs_more, SpellsClauses, clauses_last, clauses_more, SpellsBranchPairs, branch_pairs_end, branch_pairs_else, branch_pairs_more, branches_last, branches_else, branches_more}
 use Rattle.ath_grammar.specs.Lists.{put, put_phrases, put_bindings, put_clauses, put_branches, names_of}
-use Rattle.ath_grammar.specs.Rules.{Kind, a_phrase, phrases_kind, Value, phrase_part, inside, hypothesis_first, try_inside, parts, tail, sort_part, pattern_part, params, binders, closure_part, closure_inside, row_pairs, rows, clause_pairs, clause_rows, branch_pairs, branch_inside, branch_rows, Rule, done, refuse, token, peek, goto, push, check, deeper, shallower}
-use Rattle.ath_grammar.specs.SmallRules.{when, unless, close_mark, close_brace_mark, open_mark, arrow_mark, becomes_mark, expect, sort_rule, pattern_rule}
-use Rattle.ath_grammar.specs.PhraseRules.{after_var, own_pair, bare_end, alternatives_rule, params_open, bound_rule, row_close, row_name, let_body, row_pairs_rule, row_more, rows_rule, let_open, clause_close, clause_inside, clause_pairs_rule, clause_more, clause_rows_rule, clauses_open, clauses_inside, check_done, branch_close, else_close, branch_pairs_rule, branch_more, check_open, check_inside, try_open, pick_body, pick_last, after_sorted, after_name, binders_rule, witness_name, form_rule, paired_rule, phrase_rule, heads, apply_rule, second_rule, inside_rule, parts_rule, tail_rule, hypothesis_body, hypothesis_becomes, hypothesis_rule, try_inside_rule, closure_inside_rule, closure_rule, branch_inside_rule, branch_rows_rule}
+use Rattle.ath_grammar.specs.Rules.{a_phrase, phrase_part, sort_part, row_pairs, clause_pairs, branch_pairs, Rule, done, token, peek, goto, push, check, deeper, shallower}
+use Rattle.ath_grammar.specs.SmallRules.{unless, close_mark, close_brace_mark, open_mark, arrow_mark, becomes_mark, expect}
+use Rattle.ath_grammar.specs.PhraseRules.{after_var, own_pair, params_open, bound_rule, row_close, row_name, row_pairs_rule, row_more, rows_rule, let_open, clause_inside, clause_pairs_rule, clause_more, clause_rows_rule, clauses_open, clauses_inside, check_done, else_close, branch_pairs_rule, branch_more, check_open, check_inside, try_open, pick_body, pick_last, after_sorted, after_name, binders_rule, witness_name, form_rule, paired_rule, phrase_rule, heads, apply_rule, second_rule, inside_rule, parts_rule, tail_rule, hypothesis_body, hypothesis_becomes, hypothesis_rule, try_inside_rule, closure_inside_rule, closure_rule, branch_inside_rule, branch_rows_rule}
 use Rattle.ath_grammar.proofs.Meaning.{Image, image, TryOn, try_on_parts, try_on_form, BindersOn, binders_on, binders_on_name, binders_on_last, RowPairsOn, row_pairs_on, RowsOn, rows_on, BranchPairsOn, branch_pairs_on, BranchInsideOn, branch_inside_on, BranchRowsOn, branch_rows_on, Whole, wholly, Means}
 use Rattle.ath_grammar.proofs.Steps.{allowed_true}
-use Rattle.ath_grammar.proofs.Expects.{Marked, marked_close, marked_close_brace, marked_open, marked_arrow, marked_becomes, expect_sound, when_sound, when_complete, unless_sound, unless_complete}
+use Rattle.ath_grammar.proofs.Expects.{Marked, marked_close, marked_close_brace, marked_open, marked_arrow, marked_becomes, expect_sound, when_sound, unless_sound}
 use Rattle.ath_grammar.proofs.SmallParts.{pattern_sound}
 
 allowed_false : (a : Bool) → allowed a false ≡ true → a ≡ false
@@ -94,7 +94,7 @@ module _ (a : Bool) where
   row_name_sound k p w bs o (at q (Word Plain n) ∷ ts) v r h =
       let (e, (x, mid, hb, c)) = unless_sound a (push (row_close k p w bs n) (bound_rule k w)) v r (repeats k n (names_of bs)) ts h in
       let (us, m, on) = expect_sound a (shallower (goto (row_pairs k p (after_row k w x) (more_bindings n x bs)))) v r close_mark mid c in
-        row_case bs e (bound_sound k w ts x mid hb) m on
+      row_case bs e (bound_sound k w ts x mid hb) m on
   row_name_sound k p w bs o (at q t ∷ ts) v r h = absurd h
 
   rows_end_case : (k : LetWord) {p : Pos} {w : Want} (bs : Bindings) {z : Pos} {ts mid r : List Placed} {x v : Phrase} → SpellsPhrase a w ts x mid → Whole (let_phrase k p (put_bindings bs no_bindings) x) mid v r → RowPairsOn a k p w bs (at z Close ∷ ts) v r
@@ -126,7 +126,7 @@ module _ (a : Bool) where
   rows_sound k p w bs (at q (Word Plain n) ∷ ts) v r h =
       let (e, c) = unless_sound a (expect becomes_mark (push (λ x. token (row_more k p (after_row k w x) (more_bindings n x bs))) (bound_rule k w))) v r (repeats k n (names_of bs)) ts h in
       let (us, m, (x, mid, hb, more)) = expect_sound a (push (λ x. token (row_more k p (after_row k w x) (more_bindings n x bs))) (bound_rule k w)) v r becomes_mark ts c in
-        rows_becomes k p w bs q n ts us mid x v r e m (bound_sound k w us x mid hb) more
+      rows_becomes k p w bs q n ts us mid x v r e m (bound_sound k w us x mid hb) more
   rows_sound k p w bs (at q t ∷ ts) v r h = absurd h
 
   let_open_pairs : (k : LetWord) (p : Pos) (w : Want) (q : Pos) (ts us : List Placed) (v : Phrase) (r : List Placed) → allowed a (let_fits k w) ≡ true → Marked open_mark ts us → Means a (token (row_name k p (let_want k w) no_bindings)) us v r → SpellsForm a w p (LetForm k) (at q Open ∷ ts) v r
@@ -141,6 +141,7 @@ module _ (a : Bool) where
   -- clauses
   abbrev ClausesOn : ClauseWord → Pos → Phrase → Want → Clauses → List Placed → Phrase → List Placed → Type 0
   ClausesOn c p e w cs ts v r = Image (λ ys. clauses_at c p e (put_clauses cs ys)) (λ ys. SpellsClauses a w ts ys r) v
+
   clauses_more_case : (c : ClauseWord) (p : Pos) (e : Phrase) (w : Want) (cs : Clauses) {l : Pattern} {ts mid us r : List Placed} {q z : Pos} {x v : Phrase} → SpellsPattern ts l (at q Arrow ∷ mid) → SpellsPhrase a w mid x (at z Bar ∷ us) → ClausesOn c p e (only (is_deduction x)) (more_clauses l x cs) us v r → ClausesOn c p e w cs ts v r
   clauses_more_case c p e w cs h k (image m) = image (clauses_more h k m)
 
@@ -160,7 +161,7 @@ module _ (a : Bool) where
   clause_rows_on c p e w cs [] v r h = absurd h
   clause_rows_on c p e w cs (t ∷ ts) v r (l, mid, hl, h) =
       let (us, m, (x, n, hx, k)) = expect_sound a (push (λ x. token (clause_more c p e (only (is_deduction x)) (more_clauses l x cs))) (goto (phrase_part w))) v r arrow_mark mid h in
-        clause_arrow c p e w cs l (t ∷ ts) mid us n x v r (pattern_sound a (t ∷ ts) l mid hl) m hx k
+      clause_arrow c p e w cs l (t ∷ ts) mid us n x v r (pattern_sound a (t ∷ ts) l mid hl) m hx k
 
   pub clause_rows_sound : (c : ClauseWord) (p : Pos) (e : Phrase) (w : Want) (cs : Clauses) (ts : List Placed) (v : Phrase) (r : List Placed) → Means a (token (clause_rows_rule c p e w cs)) ts v r → Image (λ ys. clauses_at c p e (put_clauses cs ys)) (λ ys. SpellsClauses a w ts ys r) v
   clause_rows_sound c p e w cs ts v r h = clause_rows_on c p e w cs ts v r h
@@ -410,7 +411,7 @@ module _ (a : Bool) where
   branch_inside_sound p later w bs (at l Else ∷ ts) v r h = branch_else_sound p later w bs l ts v r (when_sound a (push (else_close p bs) (goto (phrase_part w))) v r later ts h)
   branch_inside_sound p later w bs (at l t ∷ ts) v r (e, mid, he, (x, m, hx, h)) =
       let (us, n, k) = expect_sound a (shallower (goto (branch_pairs p (only (is_deduction x)) (more_branches e x bs)))) v r close_mark m h in
-        branch_step later bs l (phrase_sound (only false) (at l t ∷ ts) e mid he) hx n k
+      branch_step later bs l (phrase_sound (only false) (at l t ∷ ts) e mid he) hx n k
 
   branch_again : {p : Pos} {w : Want} (bs : Branches) {o : Pos} {ts r : List Placed} {v : Phrase} → BranchInsideOn a p true w bs ts v r → BranchPairsOn a p w bs (at o Open ∷ ts) v r
   branch_again bs {o} (branch_inside_on h) = branch_pairs_on (branch_open o h)
@@ -461,7 +462,7 @@ module _ (a : Bool) where
   branch_rows_sound p later w bs (at l Else ∷ ts) v r h = else_rows_sound p later w bs l ts v r (when_sound a (expect arrow_mark (else_rest p w bs)) v r later ts h)
   branch_rows_sound p later w bs (at l t ∷ ts) v r (e, mid, he, h) =
       let (us, n, (x, m, hx, k)) = expect_sound a (push (λ x. token (branch_more p (only (is_deduction x)) (more_branches e x bs))) (goto (phrase_part w))) v r arrow_mark mid h in
-        branch_arrow p later w bs (at l t ∷ ts) mid us m e x v r (phrase_sound (only false) (at l t ∷ ts) e mid he) n hx k
+      branch_arrow p later w bs (at l t ∷ ts) mid us m e x v r (phrase_sound (only false) (at l t ∷ ts) e mid he) n hx k
 
   -- phrases in parentheses
   check_pairs_case : {w : Want} {p q o : Pos} {ts r : List Placed} {v : Phrase} → BranchInsideOn a p false w no_branches ts v r → SpellsPhrase a w (at p Open ∷ at q (Form Check) ∷ at o Open ∷ ts) v r
@@ -506,12 +507,12 @@ module _ (a : Bool) where
   apply_sound : (p : Pos) (w : Want) (q z : Pos) (t u : Lexeme) (f : Phrase) (ts us : List Placed) (v : Phrase) (r : List Placed) → is_first_item t ≡ true → SpellsPhrase a w (at q t ∷ ts) f (at z u ∷ us) → Means a (unless (clashes (is_operator t) (is_operator u)) (check (heads w f) (apply_rule p f (at z u)))) us v r → SpellsPhrase a w (at p Open ∷ at q t ∷ ts) v r
   apply_sound p w q z t u f ts us v r e hf h =
       let (c, (k, (x, m, hx, (xs, n, hs, d)))) = unless_sound a (check (heads w f) (apply_rule p f (at z u))) v r (clashes (is_operator t) (is_operator u)) us h in
-        apply_case e hf (if_allowed a (fits w false) (same_kind false (is_deduction f)) k) c (phrase_sound (only false) (at z u ∷ us) x m hx) hs d
+      apply_case e hf (if_allowed a (fits w false) (same_kind false (is_deduction f)) k) c (phrase_sound (only false) (at z u ∷ us) x m hx) hs d
 
   ascribe_sound : (p : Pos) (w : Want) (q z : Pos) (t : Lexeme) (f : Phrase) (ts us : List Placed) (v : Phrase) (r : List Placed) → is_first_item t ≡ true → SpellsPhrase a w (at q t ∷ ts) f (at z Colon ∷ us) → Means {k = a_phrase} a (check (heads w f) (push (λ s. expect close_mark (shallower (done (ascribe_at p f s)))) (goto sort_part))) us v r → SpellsPhrase a w (at p Open ∷ at q t ∷ ts) v r
   ascribe_sound p w q z t f ts us v r e hf (k, (s, m, hs, h)) =
       let (ms, n, d) = expect_sound {k = a_phrase} a (shallower (done (ascribe_at p f s))) v r close_mark m h in
-        ascribe_case e hf (if_allowed a (fits w false) (same_kind false (is_deduction f)) k) hs n d
+      ascribe_case e hf (if_allowed a (fits w false) (same_kind false (is_deduction f)) k) hs n d
 
   word_second : (p : Pos) (w : Want) (q : Pos) (c : WordClass) (n : Sym) (ts : List Placed) (v : Phrase) (r : List Placed) → is_first_item (Word c n) ≡ true → Fits a w false → Means a (token (second_rule p w true (is_operator (Word c n)) (name_at q n))) ts v r → SpellsPhrase a w (at p Open ∷ at q (Word c n) ∷ ts) v r
   word_second p w q c n [] v r e f h = absurd h

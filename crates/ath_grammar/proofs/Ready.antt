@@ -1,13 +1,12 @@
 -- Each state that is reached can be completed.
-use Rattle.std.proofs.Common.{◌≡◌, ℕ, suc, ◌-◌, List, [], ◌∷◌, ◌++◌, Bool, true, false, Option, Some, None, refl, sym, ap, ◌∙◌, subst}
+use Rattle.std.proofs.Common.{◌≡◌, ℕ, suc, ◌-◌, List, [], ◌∷◌, ◌++◌, Bool, false, refl, sym, ap, subst}
 use Rattle.ath_syntax.specs.Tree.{DirectiveTree}
-use Rattle.ath_grammar.specs.Kinds.{allowed}
 use Rattle.ath_grammar.specs.Tokens.{Placed, starts, is_bar}
-use Rattle.ath_grammar.specs.Rules.{Kind, a_phrase, phrases_kind, a_sort, sorts_kind, a_pattern, patterns_kind, names_kind, a_header, a_constructor, a_directive, Value, Part, directive_part, Rule, done, refuse, token, peek, goto, push, check, deeper, shallower}
+use Rattle.ath_grammar.specs.Rules.{Kind, a_directive, Value, Part, directive_part, Rule, done, refuse, token, peek, goto, push, check, deeper, shallower}
 use Rattle.ath_grammar.specs.DirectiveRules.{first}
-use Rattle.ath_grammar.specs.Machine.{Stack, bottom, frame, Config, whole, waits, lingers, Outcome, no, on, over, both, also, settled, deliver, settle, taken, handed, step, beginning, granted, advance, read_on}
-use Rattle.ath_grammar.proofs.Meaning.{Spells, Whole, wholly, Means}
-use Rattle.ath_grammar.proofs.Steps.{Resumes, Follows, Continues, Agrees}
+use Rattle.ath_grammar.specs.Machine.{Stack, bottom, frame, Config, whole, waits, lingers, Outcome, no, on, over, also, settled, deliver, taken, handed, step, beginning}
+use Rattle.ath_grammar.proofs.Meaning.{wholly, Means}
+use Rattle.ath_grammar.proofs.Steps.{Resumes, Continues, Agrees}
 
 -- the tokens behind a directive; those behind anything else don't matter
 abbrev pub Rests : Kind → List Placed → Type 0
@@ -69,17 +68,29 @@ ends_push {j} a f p n e g = let (us, x, more) = g e.1 in
 pub ends_token : {k : Kind} (a : Bool) (f : Placed → Rule k) (t : Placed) → Ends a (f t) → Ends a (token f)
 ends_token a f t (ts, v, means) = (t ∷ ts, v, means)
 
-module _ (a : Bool) (ready : IsReady a) where
+module _ (a : Bool) (least : (k : Kind) (m : Part k) → Ends a (goto m)) where
   pub ends : {k : Kind} (p : Rule k) → Solid a p → Ends a p
   ends (done v) s = ([], v, λ r h. wholly)
   ends refuse s = absurd s
   ends (token f) s = s.1
   ends (peek f q) s = s.1
-  ends (goto m) s = ready.least m
+  ends {k} (goto m) s = least k m
   ends (push f p) s = ends_push a f p s.0 (ends p s.1) (λ v. ends (f v) (s.2 v))
   ends (check b p) s = absurd s
   ends (deeper p) s = ends p s
   ends (shallower p) s = ends p s
+
+module _ (a : Bool) where
+  pub fine_solid : {k : Kind} (p : Rule k) → Solid a p → Fine a p
+  fine_solid (done v) s = tt
+  fine_solid refuse s = absurd s
+  fine_solid (token f) s = s
+  fine_solid (peek f q) s = s
+  fine_solid (goto m) s = tt
+  fine_solid (push f p) s = (s.0, fine_solid p s.1, s.2)
+  fine_solid (check b p) s = absurd s
+  fine_solid (deeper p) s = fine_solid p s
+  fine_solid (shallower p) s = fine_solid p s
 
 abbrev pub Holds : {k : Kind} → Bool → Stack k → Type 0
 Holds a bottom = Unit {0}
@@ -101,17 +112,6 @@ leads_also a b (on c st) h = h
 leads_also a b (over c d) h = h
 
 module _ (a : Bool) (ready : IsReady a) (agrees : Agrees a) where
-  fine_solid : {k : Kind} (p : Rule k) → Solid a p → Fine a p
-  fine_solid (done v) s = tt
-  fine_solid refuse s = absurd s
-  fine_solid (token f) s = s
-  fine_solid (peek f q) s = s
-  fine_solid (goto m) s = tt
-  fine_solid (push f p) s = (s.0, fine_solid p s.1, s.2)
-  fine_solid (check b p) s = absurd s
-  fine_solid (deeper p) s = fine_solid p s
-  fine_solid (shallower p) s = fine_solid p s
-
   part_ends : {k : Kind} (m : Part k) → Ends a (token (first m))
   part_ends m = let (ts, v, spells) = ready.least m in (ts, v, λ r h. agrees.complete m (ts ++ r) v r (spells r h))
 
@@ -121,14 +121,14 @@ module _ (a : Bool) (ready : IsReady a) (agrees : Agrees a) where
   settled_leads (token f) l ks j s h g = (s.0, s.1, h)
   settled_leads (peek f q) l ks j s h g = (s.0, s.1, h)
   settled_leads (goto m) l ks j s h g = (ready.fine m, part_ends m, h)
-  settled_leads (push f p) l ks j s h g = settled_leads p l (frame f ks) (λ v m. settled (f v) m ks j) s.1 (s.0, s.2, h) (λ v m. settled_leads (f v) m ks j (fine_solid (f v) (s.2 v)) h g)
+  settled_leads (push f p) l ks j s h g = settled_leads p l (frame f ks) (λ v m. settled (f v) m ks j) s.1 (s.0, s.2, h) (λ v m. settled_leads (f v) m ks j (fine_solid a (f v) (s.2 v)) h g)
   settled_leads (check b p) l ks j s h g = leads_also a b (settled p l ks j) (settled_leads p l ks j s h g)
   settled_leads (deeper p) l ks j s h g = settled_leads p (suc l) ks j s h g
   settled_leads (shallower p) l ks j s h g = settled_leads p (l - 1) ks j s h g
 
   deliver_leads : {k : Kind} (ks : Stack k) (v : Value k) (l : ℕ) → Holds a ks → Leads a (deliver ks v l)
   deliver_leads bottom v l h = tt
-  deliver_leads (frame f ks) v l h = settled_leads (f v) l ks (deliver ks) (fine_solid (f v) (h.1 v)) h.2 (λ u m. deliver_leads ks u m h.2)
+  deliver_leads (frame f ks) v l h = settled_leads (f v) l ks (deliver ks) (fine_solid a (f v) (h.1 v)) h.2 (λ u m. deliver_leads ks u m h.2)
 
   taken_leads : {k : Kind} (t : Placed) (p : Rule k) (l : ℕ) (ks : Stack k) (j : Value k → ℕ → Outcome) → Fine a p → Holds a ks → ((v : Value k) (m : ℕ) → Leads a (j v m)) → Leads a (taken t p l ks j)
   taken_leads t (done v) l ks j s h g = g v l
@@ -136,14 +136,14 @@ module _ (a : Bool) (ready : IsReady a) (agrees : Agrees a) where
   taken_leads t (token f) l ks j s h g = settled_leads (f t) l ks (deliver ks) (s.0 t) h (λ v m. deliver_leads ks v m h)
   taken_leads t (peek f q) l ks j s h g = taken_leads t (f t) l ks j (s.0 t) h g
   taken_leads t (goto m) l ks j s h g = settled_leads (first m t) l ks (deliver ks) (ready.fine m t) h (λ v m. deliver_leads ks v m h)
-  taken_leads t (push f p) l ks j s h g = taken_leads t p l (frame f ks) (λ v m. taken t (f v) m ks j) s.1 (s.0, s.2, h) (λ v m. taken_leads t (f v) m ks j (fine_solid (f v) (s.2 v)) h g)
+  taken_leads t (push f p) l ks j s h g = taken_leads t p l (frame f ks) (λ v m. taken t (f v) m ks j) s.1 (s.0, s.2, h) (λ v m. taken_leads t (f v) m ks j (fine_solid a (f v) (s.2 v)) h g)
   taken_leads t (check b p) l ks j s h g = leads_also a b (taken t p l ks j) (taken_leads t p l ks j s h g)
   taken_leads t (deeper p) l ks j s h g = taken_leads t p (suc l) ks j s h g
   taken_leads t (shallower p) l ks j s h g = taken_leads t p (l - 1) ks j s h g
 
   handed_leads : {k : Kind} (t : Placed) (ks : Stack k) (v : Value k) (l : ℕ) → Holds a ks → Leads a (handed t ks v l)
   handed_leads t bottom v l h = tt
-  handed_leads t (frame f ks) v l h = taken_leads t (f v) l ks (handed t ks) (fine_solid (f v) (h.1 v)) h.2 (λ u m. handed_leads t ks u m h.2)
+  handed_leads t (frame f ks) v l h = taken_leads t (f v) l ks (handed t ks) (fine_solid a (f v) (h.1 v)) h.2 (λ u m. handed_leads t ks u m h.2)
 
   pub step_leads : (st : Config) (t : Placed) → Stands a st → Leads a (step st t)
   step_leads (whole d) t h = tt
@@ -156,7 +156,7 @@ module _ (a : Bool) (ready : IsReady a) (agrees : Agrees a) where
   finishes : {k : Kind} (ks : Stack k) (v : Value k) → Holds a ks → Finishes ks v
   unfolding Finishes
   finishes bottom v h = ([], v, wholly, refl)
-  finishes (frame {j = j} f ks) v h = let (ts, u, means) = ends a ready (f v) (h.1 v) in let (us, d, k, rest) = finishes ks u h.2 in
+  finishes (frame {j = j} f ks) v h = let (ts, u, means) = ends a (λ k m. ready.least m) (f v) (h.1 v) in let (us, d, k, rest) = finishes ks u h.2 in
       (ts ++ us, d, (u, us, means us rest, k), any_rests j h.0 (ts ++ us))
 
   pub state_ends : (st : Config) → Stands a st → (ts : List Placed) × (d : DirectiveTree) × Continues a st ts d []

@@ -1,17 +1,17 @@
 -- The rules of sorts, patterns and lists of names say what the grammar says.
-use Rattle.std.proofs.Common.{◌≡◌, List, [], ◌∷◌, Bool, true, false, refl}
+use Rattle.std.proofs.Common.{◌≡◌, List, [], ◌∷◌, Bool, true, false}
 use Rattle.ath_sorts.specs.declared.sorts.Sym.{Sym}
 use Rattle.ath_syntax.specs.declared.place.Pos.{Pos}
 use Rattle.ath_syntax.specs.declared.node.SortText.{SortText, Name as sort_name, Var as sort_var, Con as sort_con}
 use Rattle.ath_syntax.specs.Tree.{Pattern, any_pattern, name_pattern, string_pattern, list_pattern, list_of_pattern, app_pattern, some_pattern, Patterns, no_patterns, more_patterns}
 use Rattle.ath_grammar.specs.declared.lexeme.WordClass.{WordClass}
-use Rattle.ath_grammar.specs.declared.lexeme.WordClass.TheVariants.{Plain, Dotted, Logical, Infix, Tilde, Back}
+use Rattle.ath_grammar.specs.declared.lexeme.WordClass.TheVariants.{Plain}
 use Rattle.ath_grammar.specs.declared.lexeme.Lexeme.TheVariants.{Word, Wild, ListOf, SomeOf, SortVar, Str, Open, Close, OpenBracket, CloseBracket}
 use Rattle.ath_grammar.specs.Tokens.{Placed, at, is_among}
 use Rattle.ath_grammar.specs.Small.{Closer, round, square, Closes, closes_round, closes_square, is_path, is_head, SpellsSort, sort_is_name, sort_is_var, sort_is_con, SpellsSorts, sorts_end, sorts_more, SpellsPattern, pattern_any, pattern_name, pattern_string, pattern_list, pattern_list_of, pattern_some, pattern_app, SpellsPatterns, patterns_end, patterns_more, SpellsParams, params_end, params_wild, params_name, SpellsVars, vars_end, vars_more}
 use Rattle.ath_grammar.specs.Lists.{put, put_patterns}
-use Rattle.ath_grammar.specs.Rules.{a_sort, a_pattern, sorts, pattern_part, patterns, params, vars, Rule, done, token, goto, push, shallower}
-use Rattle.ath_grammar.specs.SmallRules.{close_mark, expect, sort_named, sort_rule, sorts_rule, some_named, pattern_inside, pattern_rule, patterns_rule, params_rule, vars_rule}
+use Rattle.ath_grammar.specs.Rules.{a_pattern, sorts, patterns, params, vars, done, token, goto, push, shallower}
+use Rattle.ath_grammar.specs.SmallRules.{close_mark, sort_named, sort_rule, sorts_rule, some_named, pattern_inside, pattern_rule, patterns_rule, params_rule, vars_rule}
 use Rattle.ath_grammar.proofs.Meaning.{Image, image, Whole, wholly, Means}
 use Rattle.ath_grammar.proofs.Expects.{Marked, marked_close, expect_sound, when_sound, when_complete, unless_sound, unless_complete}
 

@@ -12,8 +12,8 @@ use Rattle.ath_grammar.specs.Kinds.{any, only}
 use Rattle.ath_grammar.specs.Tokens.{Placed, at}
 use Rattle.ath_grammar.specs.Small.{round, square, is_path}
 use Rattle.ath_grammar.specs.Lists.{put}
-use Rattle.ath_grammar.specs.Rules.{Kind, a_directive, a_header, a_constructor, Header, Constructor, Part, phrase_part, inside, parts, tail, sort_part, sorts, pattern_part, patterns, params, vars, hypothesis_first, try_inside, binders, closure_part, closure_inside, row_pairs, rows, clause_pairs, clause_rows, branch_pairs, branch_inside, branch_rows, header_part, constructor_part, constructor_list, alternatives, names, name_list, directive_part, Rule, done, refuse, token, peek, goto, push, check, deeper, shallower}
-use Rattle.ath_grammar.specs.SmallRules.{when, unless, close_mark, open_mark, to_mark, becomes_mark, expect, sort_rule, sorts_rule, pattern_rule, patterns_rule, params_rule, vars_rule}
+use Rattle.ath_grammar.specs.Rules.{Kind, a_directive, a_header, a_constructor, Header, Constructor, Part, phrase_part, inside, parts, tail, sort_part, sorts, pattern_part, patterns, params, vars, hypothesis_first, try_inside, binders, closure_part, closure_inside, row_pairs, rows, clause_pairs, clause_rows, branch_pairs, branch_inside, branch_rows, header_part, constructor_part, constructor_list, alternatives, names, name_list, directive_part, Rule, done, refuse, token, peek, goto, push, deeper, shallower}
+use Rattle.ath_grammar.specs.SmallRules.{when, close_mark, open_mark, to_mark, becomes_mark, expect, sort_rule, sorts_rule, pattern_rule, patterns_rule, params_rule, vars_rule}
 use Rattle.ath_grammar.specs.PhraseRules.{phrase_rule, inside_rule, parts_rule, tail_rule, hypothesis_rule, try_inside_rule, binders_rule, closure_rule, closure_inside_rule, row_pairs_rule, rows_rule, clause_pairs_rule, clause_rows_rule, branch_pairs_rule, branch_inside_rule, branch_rows_rule}
 
 -- the end of a directive, which may have its own pair of parentheses

@@ -72,6 +72,12 @@ step (whole d) t = over true d
 step (waits l f ks) t = settle (f t) l ks
 step (lingers l f q ks) t = taken t (f t) l ks (handed t ks)
 
+-- a step by this token from where another led
+abbrev pub then_step : Placed → Outcome → Outcome
+then_step t no = no
+then_step t (on b st) = also b (step st t)
+then_step t (over b d) = over b d
+
 -- the end of the text: the directive that is whole there, and whether kinds fit
 pub data Ending : Type 0 where
   unfinished : Ending

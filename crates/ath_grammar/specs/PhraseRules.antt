@@ -9,17 +9,15 @@ use Rattle.ath_grammar.specs.declared.lexeme.HypothesisWord.{HypothesisWord}
 use Rattle.ath_grammar.specs.declared.lexeme.LetWord.{LetWord}
 use Rattle.ath_grammar.specs.declared.lexeme.FormWord.{FormWord}
 use Rattle.ath_grammar.specs.declared.lexeme.FormWord.TheVariants.{Closure, Let as LetForm, Clauses as ClausesForm, Check, Try, Begin, Hypothesis, PickAny, PickWitness}
-use Rattle.ath_grammar.specs.declared.lexeme.WordClass.{WordClass}
-use Rattle.ath_grammar.specs.declared.lexeme.WordClass.TheVariants.{Plain, Tilde}
-use Rattle.ath_grammar.specs.declared.lexeme.Lexeme.{Lexeme}
-use Rattle.ath_grammar.specs.declared.lexeme.Lexeme.TheVariants.{Word, Form, Else, Arrow, Var, Str, Becomes, Open, Close, OpenBracket, CloseBracket, OpenBrace, CloseBrace, Bar, Semicolon, Bang, Colon}
+use Rattle.ath_grammar.specs.declared.lexeme.WordClass.TheVariants.{Plain}
+use Rattle.ath_grammar.specs.declared.lexeme.Lexeme.TheVariants.{Word, Form, Else, Var, Str, Becomes, Open, Close, OpenBracket, CloseBracket, OpenBrace, CloseBrace, Bar, Semicolon, Bang, Colon}
 use Rattle.ath_grammar.specs.Kinds.{Want, any, only, same_kind, fits, bound}
 use Rattle.ath_grammar.specs.Tokens.{Placed, at, is_first_item, is_operator, is_word, begins_phrase, clashes}
 use Rattle.ath_grammar.specs.Small.{Closer, round, square}
 use Rattle.ath_grammar.specs.Phrases.{closure_at, body_deduces, hypothesis_at, clauses_at, clause_want, clause_fits, let_phrase, let_want, let_fits, is_rec, repeats, after_row, Separator, semicolon, bar}
 use Rattle.ath_grammar.specs.Lists.{put, put_phrases, put_bindings, put_clauses, put_branches, names_of}
-use Rattle.ath_grammar.specs.Rules.{Kind, a_phrase, phrases_kind, phrase_part, inside, hypothesis_first, try_inside, parts, tail, sort_part, pattern_part, params, binders, closure_part, closure_inside, row_pairs, rows, clause_pairs, clause_rows, branch_pairs, branch_inside, branch_rows, Rule, done, refuse, token, peek, goto, push, check, deeper, shallower}
-use Rattle.ath_grammar.specs.SmallRules.{when, unless, close_mark, close_brace_mark, open_mark, arrow_mark, becomes_mark, expect, marked, sort_rule, pattern_rule}
+use Rattle.ath_grammar.specs.Rules.{a_phrase, phrases_kind, phrase_part, inside, hypothesis_first, try_inside, parts, tail, sort_part, pattern_part, params, binders, closure_part, closure_inside, row_pairs, rows, clause_pairs, clause_rows, branch_pairs, branch_inside, branch_rows, Rule, done, refuse, token, peek, goto, push, check, deeper, shallower}
+use Rattle.ath_grammar.specs.SmallRules.{when, unless, close_mark, close_brace_mark, open_mark, arrow_mark, becomes_mark, expect, pattern_rule}
 
 -- behind a variable
 abbrev pub after_var : Pos → Sym → ℕ → Placed → Rule a_phrase

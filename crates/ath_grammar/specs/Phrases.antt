@@ -122,7 +122,7 @@ mutual
     apply_none : {w : Want} {p q z : Pos} {c : WordClass} {n : Sym} {r : List Placed} → is_first_item (Word c n) ≡ true → Fits apart w false → SpellsPhrase apart w (at p Open ∷ at q (Word c n) ∷ at z Close ∷ r) (apply_at p (name_at q n) no_phrases) r
     -- (E E ..)
     apply : {w : Want} {p q : Pos} {t : _} {ts mid m r : List Placed} {f x : Phrase} {xs : Phrases} → is_first_item t ≡ true → SpellsPhrase apart w (at q t ∷ ts) f mid → Fits apart w false → IsExpression apart (is_deduction f)
-      → clashes (is_operator t) (starts is_operator mid) ≡ false → SpellsPhrase apart (only false) mid x m → SpellsParts apart (only false) round m xs r → SpellsPhrase apart w (at p Open ∷ at q t ∷ ts) (apply_at p f (more_phrases x xs)) r
+        → clashes (is_operator t) (starts is_operator mid) ≡ false → SpellsPhrase apart (only false) mid x m → SpellsParts apart (only false) round m xs r → SpellsPhrase apart w (at p Open ∷ at q t ∷ ts) (apply_at p f (more_phrases x xs)) r
     -- (F) where F isn't a word
     parens : {w : Want} {p q z : Pos} {t : _} {ts r : List Placed} {x : Phrase} → is_first_item t ≡ true → is_word t ≡ false → SpellsPhrase apart w (at q t ∷ ts) x (at z Close ∷ r) → SpellsPhrase apart w (at p Open ∷ at q t ∷ ts) x r
     -- (!E F ..)
@@ -191,14 +191,14 @@ mutual
   pub data SpellsRowPairs (apart : Bool) : LetWord → Want → List Sym → List Placed → Bindings → Want → List Placed → Type 0 where
     row_pairs_end : {k : LetWord} {w : Want} {seen : List Sym} {z : Pos} {r : List Placed} → SpellsRowPairs apart k w seen (at z Close ∷ r) no_bindings w r
     row_pairs_more : {k : LetWord} {w v : Want} {seen : List Sym} {o q z : Pos} {n : Sym} {ts mid r : List Placed} {x : Phrase} {bs : Bindings} → repeats k n seen ≡ false → SpellsBound apart k w ts x (at z Close ∷ mid) → SpellsRowPairs apart k (after_row k w x) (n ∷ seen) mid bs v r
-      → SpellsRowPairs apart k w seen (at o Open ∷ at q (Word Plain n) ∷ ts) (more_bindings n x bs) v r
+        → SpellsRowPairs apart k w seen (at o Open ∷ at q (Word Plain n) ∷ ts) (more_bindings n x bs) v r
 
   -- bindings with `:=` up to a brace, one or more, and what the body may be
   pub data SpellsRows (apart : Bool) : LetWord → Want → List Sym → List Placed → Bindings → Want → List Placed → Type 0 where
     rows_last : {k : LetWord} {w : Want} {seen : List Sym} {q e z : Pos} {n : Sym} {ts r : List Placed} {x : Phrase} → repeats k n seen ≡ false → SpellsBound apart k w ts x (at z CloseBrace ∷ r)
-      → SpellsRows apart k w seen (at q (Word Plain n) ∷ at e Becomes ∷ ts) (more_bindings n x no_bindings) (after_row k w x) r
+        → SpellsRows apart k w seen (at q (Word Plain n) ∷ at e Becomes ∷ ts) (more_bindings n x no_bindings) (after_row k w x) r
     rows_more : {k : LetWord} {w v : Want} {seen : List Sym} {q e z : Pos} {n : Sym} {ts mid r : List Placed} {x : Phrase} {bs : Bindings} → repeats k n seen ≡ false → SpellsBound apart k w ts x (at z Semicolon ∷ mid) → SpellsRows apart k (after_row k w x) (n ∷ seen) mid bs v r
-      → SpellsRows apart k w seen (at q (Word Plain n) ∷ at e Becomes ∷ ts) (more_bindings n x bs) v r
+        → SpellsRows apart k w seen (at q (Word Plain n) ∷ at e Becomes ∷ ts) (more_bindings n x bs) v r
 
   -- clauses in parentheses up to a bracket
   pub data SpellsClausePairs (apart : Bool) : Want → List Placed → Clauses → List Placed → Type 0 where
@@ -215,11 +215,11 @@ mutual
     branch_pairs_end : {w : Want} {z : Pos} {r : List Placed} → SpellsBranchPairs apart true w (at z Close ∷ r) no_branches no_else r
     branch_pairs_else : {w : Want} {o l y z : Pos} {ts r : List Placed} {x : Phrase} → SpellsPhrase apart w ts x (at y Close ∷ at z Close ∷ r) → SpellsBranchPairs apart true w (at o Open ∷ at l Else ∷ ts) no_branches (else_phrase x) r
     branch_pairs_more : {later : Bool} {w : Want} {o z : Pos} {ts mid m r : List Placed} {e x : Phrase} {bs : Branches} {l : Otherwise} → SpellsPhrase apart (only false) ts e mid → SpellsPhrase apart w mid x (at z Close ∷ m) → SpellsBranchPairs apart true (only (is_deduction x)) m bs l r
-      → SpellsBranchPairs apart later w (at o Open ∷ ts) (more_branches e x bs) l r
+        → SpellsBranchPairs apart later w (at o Open ∷ ts) (more_branches e x bs) l r
 
   -- clauses of `check` with `=>` up to a brace; the Bool says whether one stands before
   pub data SpellsBranches (apart : Bool) : Bool → Want → List Placed → Branches → Otherwise → List Placed → Type 0 where
     branches_last : {later : Bool} {w : Want} {e z : Pos} {ts mid r : List Placed} {c x : Phrase} → SpellsPhrase apart (only false) ts c (at e Arrow ∷ mid) → SpellsPhrase apart w mid x (at z CloseBrace ∷ r) → SpellsBranches apart later w ts (more_branches c x no_branches) no_else r
     branches_else : {w : Want} {l e z : Pos} {mid r : List Placed} {x : Phrase} → SpellsPhrase apart w mid x (at z CloseBrace ∷ r) → SpellsBranches apart true w (at l Else ∷ at e Arrow ∷ mid) no_branches (else_phrase x) r
     branches_more : {later : Bool} {w : Want} {e z : Pos} {ts mid m r : List Placed} {c x : Phrase} {bs : Branches} {l : Otherwise} → SpellsPhrase apart (only false) ts c (at e Arrow ∷ mid) → SpellsPhrase apart w mid x (at z Bar ∷ m) → SpellsBranches apart true (only (is_deduction x)) m bs l r
-      → SpellsBranches apart later w ts (more_branches c x bs) l r
+        → SpellsBranches apart later w ts (more_branches c x bs) l r

@@ -1,5 +1,5 @@
 -- How a reader goes on, one token at a time. A rule says what the next token may be, and what is read behind it.
-use Rattle.std.specs.Prelude.{ℕ, List, [], ◌∷◌, Bool, Option}
+use Rattle.std.specs.Prelude.{List, Bool}
 use Rattle.ath_sorts.specs.declared.sorts.Sym.{Sym}
 use Rattle.ath_syntax.specs.declared.place.Pos.{Pos}
 use Rattle.ath_syntax.specs.declared.node.SortText.{SortText}

@@ -1,15 +1,15 @@
 -- How a reader goes on in sorts, patterns and lists of names.
-use Rattle.std.specs.Prelude.{List, [], ◌∷◌, Bool, true, false, if◌then◌else◌}
+use Rattle.std.specs.Prelude.{List, [], ◌∷◌, Bool, true, false}
 use Rattle.ath_sorts.specs.declared.sorts.Sym.{Sym}
 use Rattle.ath_syntax.specs.declared.node.SortText.{SortText, Name as sort_name, Var as sort_var, Con as sort_con}
-use Rattle.ath_syntax.specs.Tree.{Pattern, any_pattern, name_pattern, string_pattern, list_pattern, list_of_pattern, app_pattern, some_pattern, Patterns, no_patterns, more_patterns}
+use Rattle.ath_syntax.specs.Tree.{any_pattern, name_pattern, string_pattern, list_pattern, list_of_pattern, app_pattern, some_pattern, Patterns, no_patterns, more_patterns}
 use Rattle.ath_grammar.specs.declared.lexeme.WordClass.TheVariants.{Plain}
 use Rattle.ath_grammar.specs.declared.lexeme.Lexeme.{Lexeme}
 use Rattle.ath_grammar.specs.declared.lexeme.Lexeme.TheVariants.{Word, Wild, Arrow, To, ListOf, SomeOf, SortVar, Str, Becomes, Open, Close, OpenBracket, CloseBracket, CloseBrace}
 use Rattle.ath_grammar.specs.Tokens.{Placed, at, is_among}
 use Rattle.ath_grammar.specs.Small.{Closer, round, square, is_path, is_head}
 use Rattle.ath_grammar.specs.Lists.{put, put_patterns}
-use Rattle.ath_grammar.specs.Rules.{Kind, a_sort, sorts_kind, a_pattern, patterns_kind, names_kind, sort_part, sorts, pattern_part, patterns, params, vars, Rule, done, refuse, token, goto, push, deeper, shallower}
+use Rattle.ath_grammar.specs.Rules.{Kind, a_sort, sorts_kind, a_pattern, patterns_kind, names_kind, sorts, pattern_part, patterns, params, vars, Rule, done, refuse, token, goto, push, deeper, shallower}
 
 abbrev pub when : {k : Kind} → Bool → Rule k → Rule k
 when true r = r

@@ -1,14 +1,13 @@
 -- What the steps over a list of tokens say of the grammar.
-use Rattle.std.proofs.Common.{◌≡◌, ℕ, List, [], ◌∷◌, ◌++◌, Bool, true, false, Option, Some, None, refl, sym, ap, ◌∙◌, subst}
+use Rattle.std.proofs.Common.{◌≡◌, List, [], ◌∷◌, ◌++◌, Bool, true, false, Option, Some, None, refl, sym, ◌∙◌, subst}
 use Rattle.ath_syntax.specs.Tree.{DirectiveTree}
 use Rattle.ath_grammar.specs.Kinds.{allowed}
 use Rattle.ath_grammar.specs.Tokens.{Placed}
-use Rattle.ath_grammar.specs.DirectiveRules.{first}
 use Rattle.ath_grammar.specs.Rules.{directive_part}
 use Rattle.ath_grammar.specs.Directives.{SpellsDirective, Begins}
-use Rattle.ath_grammar.specs.Machine.{Config, whole, waits, lingers, Outcome, no, on, over, step, Ending, unfinished, finished, at_end, beginning, granted, advance, read_on}
+use Rattle.ath_grammar.specs.Machine.{Config, Outcome, no, on, over, step, Ending, unfinished, finished, at_end, beginning, granted, advance, read_on}
 use Rattle.ath_grammar.proofs.Meaning.{Whole, wholly}
-use Rattle.ath_grammar.proofs.Steps.{Continues, After, Agrees, Finishes, allowed_true, step_sound, step_complete, end_sound, end_complete}
+use Rattle.ath_grammar.proofs.Steps.{Continues, After, Agrees, Finishes, step_sound, step_complete, end_complete}
 use Rattle.ath_grammar.proofs.Ready.{IsReady, Stands, Leads, step_leads, state_ends, beginning_stands}
 
 -- what holds of a state, where there is one

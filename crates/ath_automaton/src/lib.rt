@@ -1,0 +1,14 @@
+//! A reader of one token at a time, that builds trees.
+#![tactic(auto)]
+
+pub mod frame;
+pub mod kind;
+pub mod resume;
+pub mod resume_phrase;
+pub mod small;
+pub mod state;
+pub mod tree;
+
+pub use frame::{Closer, Frame, Separator, Want};
+pub use state::{Move, Next, State, Turn};
+pub use tree::{DirectiveTree, PatternTree, PhraseTree, StatementTree};

@@ -3,7 +3,7 @@ use Rattle.std.proofs.Common.{◌≡◌, ℕ, suc, ◌-◌, Bool, true, false, r
 use Rattle.ath_grammar.specs.Tokens.{Placed}
 use Rattle.ath_grammar.specs.Rules.{Kind, Value, Rule, done, refuse, token, peek, goto, push, check, deeper, shallower}
 use Rattle.ath_grammar.specs.DirectiveRules.{first}
-use Rattle.ath_grammar.specs.Machine.{Stack, bottom, frame, Config, Outcome, no, on, over, both, also, settled, deliver, settle, taken, handed, step, then_step}
+use Rattle.ath_grammar.specs.Machine.{Stack, bottom, frame, Outcome, no, on, over, both, also, settled, deliver, settle, taken, handed, step, then_step}
 
 pub also_true : (o : Outcome) → also true o ≡ o
 also_true no = refl

@@ -1,2 +1,4 @@
+pub mod RowLaws
+pub mod Rows
 pub mod SmallLaws
 pub mod Turns

@@ -1,5 +1,5 @@
 -- The end of a list that is read is the newest.
-use Rattle.std.proofs.Common.{◌≡◌, List, [], ◌∷◌, ◌++◌, refl, sym, ap, subst, ◌∙◌, ℕ, Bool, Option}
+use Rattle.std.proofs.Common.{◌≡◌, List, [], ◌∷◌, ◌++◌, refl, sym, ap, subst, ℕ, Bool, Option}
 use Rattle.ath_syntax.specs.Tree.{Patterns, more_patterns, Phrases, more_phrases}
 use Rattle.ath_sorts.specs.declared.sorts.Sym.{Sym}
 use Rattle.ath_syntax.specs.declared.place.Pos.{Pos}

@@ -1,20 +1,18 @@
 -- What a state and a stack of an automaton are to the grammar's rules.
-use Rattle.std.specs.Prelude.{ℕ, List, [], ◌∷◌, Bool, true, false, Option, Some, None, map}
-use Rattle.ath_sorts.specs.declared.sorts.Sym.{Sym}
-use Rattle.ath_syntax.specs.declared.place.Pos.{Pos}
-use Rattle.ath_syntax.specs.declared.node.SortText.{SortText, Con as sort_con}
-use Rattle.ath_syntax.specs.Tree.{name_at, variable_at, list_at, ascribe_at, apply_at, call_at, check_at, try_at, seq_at, pick_any_at, pick_witness_at, Phrase, no_phrases, more_phrases, no_patterns, more_patterns, list_of_pattern, list_pattern, app_pattern, some_pattern, no_bindings, more_bindings, no_clauses, more_clauses, no_branches, more_branches, no_else, is_deduction, directive_at, domain_is, datatype_is, define_is, define_fun_is, phrase_is}
+use Rattle.std.specs.Prelude.{ℕ, List, [], ◌∷◌, Bool, true, false, Some, None, map}
+use Rattle.ath_syntax.specs.declared.node.SortText.{Con as sort_con}
+use Rattle.ath_syntax.specs.Tree.{name_at, variable_at, list_at, ascribe_at, apply_at, call_at, try_at, seq_at, pick_any_at, pick_witness_at, no_phrases, more_phrases, no_patterns, more_patterns, list_of_pattern, list_pattern, app_pattern, no_bindings, more_bindings, no_clauses, more_clauses, no_branches, more_branches, is_deduction, directive_at, domain_is, datatype_is, define_is, define_fun_is}
 use Rattle.ath_grammar.specs.Kinds as grammar
 use Rattle.ath_grammar.specs.Small as brackets
 use Rattle.ath_grammar.specs.Phrases as forms
 use Rattle.ath_grammar.specs.Phrases.{closure_at, hypothesis_at, clauses_at, let_phrase, body_deduces, after_row}
-use Rattle.ath_grammar.specs.Lists.{put, put_phrases, put_bindings, put_clauses, put_branches}
+use Rattle.ath_grammar.specs.Lists.{put, put_bindings}
 use Rattle.ath_grammar.specs.Rules as part
 use Rattle.ath_grammar.specs.Rules.{Kind, a_phrase, phrases_kind, a_sort, sorts_kind, a_pattern, patterns_kind, names_kind, a_header, a_constructor, a_directive, Value, Rule, done, refuse, token, peek, goto, push, deeper, shallower}
 use Rattle.ath_grammar.specs.SmallRules.{close_mark, close_brace_mark, open_mark, arrow_mark, to_mark, becomes_mark, marked, expect, sort_named, some_named, pattern_inside}
 use Rattle.ath_grammar.specs.PhraseRules.{after_var, own_pair, bare_end, params_open, bound_rule, row_close, row_name, row_more, let_open, clause_close, clause_more, clauses_open, clauses_inside, check_done, branch_close, else_close, branch_more, check_open, check_inside, try_open, pick_body, pick_last, after_sorted, after_name, witness_name, second_rule, hypothesis_body, hypothesis_becomes}
 use Rattle.ath_grammar.specs.DirectiveRules.{first, finish, equals, header_var, header_name, constructor_name, after_constructor, alternative, declared_as, type_inside, type_rule, signature_inside, signature_rule, after_declared, group_first, group_rule, fun_name, define_rule, asserted, assert_becomes, assert_rule, load_rule, phrase_said, directive_inside}
-use Rattle.ath_grammar.specs.Machine.{Stack, bottom, frame, Config, whole, waits, lingers, Outcome, no, on, over, also, deliver}
+use Rattle.ath_grammar.specs.Machine.{Stack, bottom, frame, Config, waits, lingers, Outcome, no, on, also, deliver}
 use Rattle.ath_grammar.specs.declared.lexeme.Lexeme.{Lexeme}
 use Rattle.ath_grammar.specs.declared.lexeme.Lexeme.TheVariants.{Close, CloseBracket}
 use Rattle.ath_automaton.specs.declared.frame.Want.{Want}

@@ -1,10 +1,9 @@
 -- The trees that are read, as the grammar has them. Lists that are read hold what came last at their end; the grammar's
 -- rules have it first.
-use Rattle.std.specs.Prelude.{ℕ, List, [], ◌∷◌, Option, Some, None, map}
+use Rattle.std.specs.Prelude.{List, [], ◌∷◌, Option, Some, None}
 use Rattle.ath_sorts.specs.declared.sorts.Sym.{Sym}
 use Rattle.ath_syntax.specs.Tree.{Pattern, any_pattern, name_pattern, string_pattern, list_pattern, list_of_pattern, app_pattern, some_pattern, Patterns, no_patterns, more_patterns, Phrase, name_at, variable_at, string_at, list_at, ascribe_at, apply_at, call_at, check_at, try_at, seq_at, pick_any_at, pick_witness_at, Phrases, no_phrases, more_phrases, Bindings, no_bindings, more_bindings, Clauses, no_clauses, more_clauses, Branches, no_branches, more_branches, Otherwise, no_else, else_phrase, Statement, domain_is, datatype_is, declare_is, define_is, define_fun_is, assert_is, load_is, phrase_is, DirectiveTree, directive_at}
 use Rattle.ath_grammar.specs.Phrases.{closure_at, hypothesis_at, clauses_at, let_phrase}
-use Rattle.ath_grammar.specs.Lists.{put}
 use Rattle.ath_automaton.specs.declared.tree.PatternTree.{PatternTree}
 use Rattle.ath_automaton.specs.declared.tree.PatternTree.TheOpen as pattern
 use Rattle.ath_automaton.specs.declared.tree.PatternTree.TheFolds.{fold-PatternTree}

@@ -19,11 +19,19 @@ use std::alloc::{AllocError, Global};
 fn phrase(level: u64, tree: PhraseTree) -> Next
     ensures { result ≡ record { level = level; turn = Turn.Phrase tree } }
 {
-    Next { level, turn: Turn::Phrase(tree) }
+    Next {
+        level,
+        turn: Turn::Phrase(tree),
+    }
 }
 
 /// A list of phrases for what waits for it.
-pub fn resume_phrases(alloc: Global, level: u64, frame: PhrasesFrame, read: Items<PhraseTree>) -> Result<Next, AllocError>
+pub fn resume_phrases(
+    alloc: Global,
+    level: u64,
+    frame: PhrasesFrame,
+    read: Items<PhraseTree>,
+) -> Result<Next, AllocError>
     ensures { IfOk result (λ n. (fs : List Framed) → next_of n fs ≡ deliver (phrases_stack frame (λ k. stack_of k fs)) (phrases_of (map phrase_of read)) level) }
 {
     match frame {
@@ -46,8 +54,14 @@ pub fn resume_patterns(level: u64, frame: PatternsFrame, read: Items<PatternTree
     ensures { (fs : List Framed) → next_of result fs ≡ deliver (patterns_stack frame (λ k. stack_of k fs)) (patterns_of (map pattern_of read)) level }
 {
     match frame {
-        PatternsFrame::List => Next { level, turn: Turn::Pattern(PatternTree::List(read)) },
-        PatternsFrame::App(name) => Next { level, turn: Turn::Pattern(PatternTree::App(name, read)) },
+        PatternsFrame::List => Next {
+            level,
+            turn: Turn::Pattern(PatternTree::List(read)),
+        },
+        PatternsFrame::App(name) => Next {
+            level,
+            turn: Turn::Pattern(PatternTree::App(name, read)),
+        },
     }
 }
 
@@ -56,33 +70,80 @@ pub fn finish(level: u64, own: bool, tree: DirectiveTree) -> Next
     ensures { (fs : List Framed) → next_of result fs ≡ settle (finish own (directive_of tree)) level (stack_of a_directive fs) }
 {
     if own {
-        Next { level, turn: Turn::Wait(State::Directive(DirectiveState::Close(tree))) }
+        Next {
+            level,
+            turn: Turn::Wait(State::Directive(DirectiveState::Close(tree))),
+        }
     } else {
-        Next { level, turn: Turn::Directive(tree) }
+        Next {
+            level,
+            turn: Turn::Directive(tree),
+        }
     }
 }
 
 /// A declaration that is read, but for the bracket of its own pair.
 #[tactic(auto, using(crate::proofs::Turns::declared_again))]
-pub fn declared(level: u64, own: bool, pos: Pos, names: Items<Sym>, params: Option<Items<Sym>>, args: Items<SortText>, sort: SortText) -> Next
+pub fn declared(
+    level: u64,
+    own: bool,
+    pos: Pos,
+    names: Items<Sym>,
+    params: Option<Items<Sym>>,
+    args: Items<SortText>,
+    sort: SortText,
+) -> Next
     ensures { (fs : List Framed) → next_of result fs ≡ settle (declared_as own pos (back names) params args sort) level (stack_of a_directive fs) }
 {
-    finish(level, own, DirectiveTree { pos, statement: StatementTree::Declare(names, params, args, sort) })
+    finish(
+        level,
+        own,
+        DirectiveTree {
+            pos,
+            statement: StatementTree::Declare(names, params, args, sort),
+        },
+    )
 }
 
 /// A list of sorts for what waits for it.
 #[tactic(auto, using(crate::proofs::Turns::turned_push))]
-pub fn resume_sorts(alloc: Global, level: u64, frame: SortsFrame, read: Items<SortText>, stack: &mut Vec<Frame>) -> Result<Next, AllocError>
+pub fn resume_sorts(
+    alloc: Global,
+    level: u64,
+    frame: SortsFrame,
+    read: Items<SortText>,
+    stack: &mut Vec<Frame>,
+) -> Result<Next, AllocError>
     ensures { IfOk result (λ n. next_of n (turned [] stack.new.items) ≡ deliver (sorts_stack frame (λ k. stack_of k (turned [] stack.old.items))) read level) }
 {
     match frame {
-        SortsFrame::Con(name) => Ok(Next { level, turn: Turn::Sort(SortText::Con(name, read)) }),
-        SortsFrame::Constructor(name) => Ok(Next { level, turn: Turn::Constructor(name, read) }),
-        SortsFrame::Declared(own, pos, names, params, name) => Ok(declared(level, own, pos, names, params, Items::new(alloc), SortText::Con(name, read))),
-        SortsFrame::Brackets(pos, names, params) => Ok(Next { level, turn: Turn::Wait(State::Directive(DirectiveState::TypeTo(pos, names, params, read))) }),
+        SortsFrame::Con(name) => Ok(Next {
+            level,
+            turn: Turn::Sort(SortText::Con(name, read)),
+        }),
+        SortsFrame::Constructor(name) => Ok(Next {
+            level,
+            turn: Turn::Constructor(name, read),
+        }),
+        SortsFrame::Declared(own, pos, names, params, name) => Ok(declared(
+            level,
+            own,
+            pos,
+            names,
+            params,
+            Items::new(alloc),
+            SortText::Con(name, read),
+        )),
+        SortsFrame::Brackets(pos, names, params) => Ok(Next {
+            level,
+            turn: Turn::Wait(State::Directive(DirectiveState::TypeTo(pos, names, params, read))),
+        }),
         SortsFrame::Arrow(pos, names, params) => {
             stack.push(Frame::Sort(SortFrame::Arrow(pos, names, params, read)))?;
-            Ok(Next { level, turn: Turn::Wait(State::Small(SmallState::Sort)) })
+            Ok(Next {
+                level,
+                turn: Turn::Wait(State::Small(SmallState::Sort)),
+            })
         }
     }
 }

@@ -1,14 +1,17 @@
 // What waits for a phrase goes on with one.
 
-ghost use Rattle.std.specs.Prelude.{◌≡◌, IfOk, [], ◌∷◌};
+ghost use Rattle.std.specs.Prelude.{◌≡◌, IfOk, List, [], ◌∷◌};
+ghost use Rattle.ath_grammar.specs.Phrases.{after_row};
+ghost use Rattle.ath_automaton.specs.declared.frame.Frame.{Frame as Framed};
 ghost use Rattle.ath_grammar.specs.Machine.{deliver};
 ghost use Rattle.ath_automaton.specs.Trees.{turned, phrase_of};
-ghost use Rattle.ath_automaton.specs.Configs.{stack_of, next_of, pair_stack, item_stack, first_stack};
+ghost use Rattle.ath_automaton.specs.Configs.{stack_of, next_of, want_of, pair_stack, item_stack, first_stack, row_stack};
 
-use crate::frame::{Closer, FirstFrame, Frame, ItemFrame, PairFrame, PhrasesFrame, Separator, Want};
+use crate::frame::{Closer, FirstFrame, Frame, ItemFrame, PairFrame, RowFrame, PhrasesFrame, Separator, Want};
 use crate::kind::is_deduction;
-use crate::state::{Next, PhraseState, SmallState, State, Turn};
+use crate::state::{ClauseState, Next, PhraseState, SmallState, State, Turn};
 use crate::tree::PhraseTree;
+use ath_grammar::LetWord;
 use sqlite_items::{Boxed, Items};
 use std::alloc::{AllocError, Global};
 
@@ -106,6 +109,57 @@ fn resume_first(alloc: Global, level: u64, frame: FirstFrame, tree: PhraseTree, 
             let kind = is_deduction(&tree);
             let list = only(alloc, tree)?;
             Ok(small(level, SmallState::Tail(Separator::Bar, Want::Only(kind), list)))
+        }
+    }
+}
+
+fn clause(level: u64, state: ClauseState) -> Next
+    ensures { result ≡ record { level = level; turn = Turn.Wait (State.Clause state) } }
+{
+    Next { level, turn: Turn::Wait(State::Clause(state)) }
+}
+
+/// A phrase for what waits for it. A phrase of a closure or of bindings.
+#[tactic(auto, using(crate::proofs::Rows::let_again, crate::proofs::RowLaws::row_pair_next, crate::proofs::RowLaws::row_next))]
+fn resume_row(alloc: Global, level: u64, frame: RowFrame, tree: PhraseTree) -> Result<Next, AllocError>
+    ensures { IfOk result (λ n. (fs : List Framed) → next_of n fs ≡ deliver (row_stack frame (λ k. stack_of k fs)) (phrase_of tree) level) }
+{
+    match frame {
+        RowFrame::ClosureBody(word, pos, names) => {
+            let body = Boxed::new(alloc, tree)?;
+            Ok(done(level, PhraseTree::Closure(word, pos, names, body)))
+        }
+        RowFrame::RowPair(word, pos, want, rows, name) => {
+            let want = after_row(word, want, &tree);
+            let mut rows = rows;
+            rows.push((name, tree))?;
+            Ok(wait(level, PhraseState::RowClose(word, pos, want, rows)))
+        }
+        RowFrame::Row(word, pos, want, rows, name) => {
+            let want = after_row(word, want, &tree);
+            let mut rows = rows;
+            rows.push((name, tree))?;
+            Ok(wait(level, PhraseState::RowMore(word, pos, want, rows)))
+        }
+        RowFrame::LetBody(word, pos, rows) => {
+            let body = Boxed::new(alloc, tree)?;
+            Ok(done(level, PhraseTree::Let(word, pos, rows, body)))
+        }
+    }
+}
+
+/// What a `let` may be after this binding.
+fn after_row(word: LetWord, want: Want, tree: &PhraseTree) -> Want
+    ensures { want_of result ≡ after_row word (want_of want) (phrase_of tree.now) }
+{
+    match word {
+        LetWord::LetRec => want,
+        _ => {
+            if is_deduction(tree) {
+                Want::Only(true)
+            } else {
+                want
+            }
         }
     }
 }

@@ -24,13 +24,19 @@ use std::alloc::{AllocError, Global};
 fn wait(level: u64, state: SmallState) -> Next
     ensures { result ≡ record { level = level; turn = Turn.Wait (State.Small state) } }
 {
-    Next { level, turn: Turn::Wait(State::Small(state)) }
+    Next {
+        level,
+        turn: Turn::Wait(State::Small(state)),
+    }
 }
 
 fn refuse(level: u64) -> Next
     ensures { result ≡ record { level = level; turn = Turn.Refuse } }
 {
-    Next { level, turn: Turn::Refuse }
+    Next {
+        level,
+        turn: Turn::Refuse,
+    }
 }
 
 /// The first token of a sort.
@@ -40,11 +46,20 @@ pub fn sort(level: u64, pos: Pos, token: Lexeme, stack: &Vec<Frame>) -> Next
 {
     match token {
         Lexeme::Word(class, name) => match class {
-            WordClass::Plain => Next { level, turn: Turn::Sort(SortText::Name(name)) },
-            WordClass::Dotted => Next { level, turn: Turn::Sort(SortText::Name(name)) },
+            WordClass::Plain => Next {
+                level,
+                turn: Turn::Sort(SortText::Name(name)),
+            },
+            WordClass::Dotted => Next {
+                level,
+                turn: Turn::Sort(SortText::Name(name)),
+            },
             _ => refuse(level),
         },
-        Lexeme::SortVar(name) => Next { level, turn: Turn::Sort(SortText::Var(name)) },
+        Lexeme::SortVar(name) => Next {
+            level,
+            turn: Turn::Sort(SortText::Var(name)),
+        },
         Lexeme::Open => wait(level + 1, SmallState::SortName),
         _ => refuse(level),
     }
@@ -52,7 +67,13 @@ pub fn sort(level: u64, pos: Pos, token: Lexeme, stack: &Vec<Frame>) -> Next
 
 /// The name behind the bracket of a sort.
 #[tactic(auto, using(crate::proofs::Turns::turned_push))]
-pub fn sort_name(alloc: Global, level: u64, pos: Pos, token: Lexeme, stack: &mut Vec<Frame>) -> Result<Next, AllocError>
+pub fn sort_name(
+    alloc: Global,
+    level: u64,
+    pos: Pos,
+    token: Lexeme,
+    stack: &mut Vec<Frame>,
+) -> Result<Next, AllocError>
     ensures { IfOk result (λ n. next_of n (turned [] stack.new.items) ≡ settle (sort_named (at pos token)) level (stack_of a_sort (turned [] stack.old.items))) }
 {
     match token {
@@ -89,12 +110,22 @@ pub fn closes(closer: Closer, token: &Lexeme) -> bool
 
 /// A token of a list of sorts.
 #[tactic(auto, using(crate::proofs::SmallLaws::sorts_next, crate::proofs::SmallLaws::sorts_end))]
-pub fn sorts(level: u64, closer: Closer, read: Items<SortText>, pos: Pos, token: Lexeme, stack: &mut Vec<Frame>) -> Result<Next, AllocError>
+pub fn sorts(
+    level: u64,
+    closer: Closer,
+    read: Items<SortText>,
+    pos: Pos,
+    token: Lexeme,
+    stack: &mut Vec<Frame>,
+) -> Result<Next, AllocError>
     requires { level < 2 ^ 32 }
     ensures { IfOk result (λ n. next_of n (turned [] stack.new.items) ≡ settle (sorts_rule (closer_of closer) (back read) (at pos token)) level (stack_of sorts_kind (turned [] stack.old.items))) }
 {
     if closes(closer, &token) {
-        return Ok(Next { level: level.saturating_sub(1), turn: Turn::Sorts(read) });
+        return Ok(Next {
+            level: level.saturating_sub(1),
+            turn: Turn::Sorts(read),
+        });
     }
     stack.push(Frame::Sort(SortFrame::Item(closer, read)))?;
     let next = sort(level, pos, token, stack);
@@ -103,21 +134,42 @@ pub fn sorts(level: u64, closer: Closer, read: Items<SortText>, pos: Pos, token:
 
 /// The first token of a pattern.
 #[tactic(auto, using(crate::proofs::Turns::turned_push))]
-pub fn pattern(alloc: Global, level: u64, pos: Pos, token: Lexeme, stack: &mut Vec<Frame>) -> Result<Next, AllocError>
+pub fn pattern(
+    alloc: Global,
+    level: u64,
+    pos: Pos,
+    token: Lexeme,
+    stack: &mut Vec<Frame>,
+) -> Result<Next, AllocError>
     requires { level < 2 ^ 32 }
     ensures { IfOk result (λ n. next_of n (turned [] stack.new.items) ≡ settle (pattern_rule (at pos token)) level (stack_of a_pattern (turned [] stack.old.items))) }
 {
     match token {
-        Lexeme::Wild(_name) => Ok(Next { level, turn: Turn::Pattern(PatternTree::Any) }),
+        Lexeme::Wild(_name) => Ok(Next {
+            level,
+            turn: Turn::Pattern(PatternTree::Any),
+        }),
         Lexeme::Word(class, name) => match class {
-            WordClass::Plain => Ok(Next { level, turn: Turn::Pattern(PatternTree::Name(name)) }),
-            WordClass::Dotted => Ok(Next { level, turn: Turn::Pattern(PatternTree::Name(name)) }),
+            WordClass::Plain => Ok(Next {
+                level,
+                turn: Turn::Pattern(PatternTree::Name(name)),
+            }),
+            WordClass::Dotted => Ok(Next {
+                level,
+                turn: Turn::Pattern(PatternTree::Name(name)),
+            }),
             _ => Ok(refuse(level)),
         },
-        Lexeme::Str(text) => Ok(Next { level, turn: Turn::Pattern(PatternTree::Str(text)) }),
+        Lexeme::Str(text) => Ok(Next {
+            level,
+            turn: Turn::Pattern(PatternTree::Str(text)),
+        }),
         Lexeme::OpenBracket => {
             stack.push(Frame::Patterns(PatternsFrame::List))?;
-            Ok(wait(level + 1, SmallState::Patterns(Closer::Square, Items::new(alloc))))
+            Ok(wait(
+                level + 1,
+                SmallState::Patterns(Closer::Square, Items::new(alloc)),
+            ))
         }
         Lexeme::Open => Ok(wait(level + 1, SmallState::PatternInside)),
         _ => Ok(refuse(level)),
@@ -140,19 +192,35 @@ fn can_head(class: WordClass) -> bool
 
 /// A word behind the bracket of a pattern.
 #[tactic(auto, using(crate::proofs::Turns::turned_push))]
-fn pattern_head(alloc: Global, level: u64, pos: Pos, class: WordClass, name: Sym, stack: &mut Vec<Frame>) -> Result<Next, AllocError>
+fn pattern_head(
+    alloc: Global,
+    level: u64,
+    pos: Pos,
+    class: WordClass,
+    name: Sym,
+    stack: &mut Vec<Frame>,
+) -> Result<Next, AllocError>
     ensures { IfOk result (λ n. next_of n (turned [] stack.new.items) ≡ settle (pattern_inside (at pos (Lexeme.Word class name))) level (stack_of a_pattern (turned [] stack.old.items))) }
 {
     if !can_head(class) {
         return Ok(refuse(level));
     }
     stack.push(Frame::Patterns(PatternsFrame::App(name)))?;
-    Ok(wait(level, SmallState::Patterns(Closer::Round, Items::new(alloc))))
+    Ok(wait(
+        level,
+        SmallState::Patterns(Closer::Round, Items::new(alloc)),
+    ))
 }
 
 /// The token behind the bracket of a pattern.
 #[tactic(auto, using(crate::proofs::Turns::turned_push))]
-pub fn pattern_inside(alloc: Global, level: u64, pos: Pos, token: &Lexeme, stack: &mut Vec<Frame>) -> Result<Next, AllocError>
+pub fn pattern_inside(
+    alloc: Global,
+    level: u64,
+    pos: Pos,
+    token: &Lexeme,
+    stack: &mut Vec<Frame>,
+) -> Result<Next, AllocError>
     ensures { IfOk result (λ n. next_of n (turned [] stack.new.items) ≡ settle (pattern_inside (at pos token.now)) level (stack_of a_pattern (turned [] stack.old.items))) }
 {
     match token {
@@ -175,7 +243,10 @@ pub fn some_name(level: u64, word: Sym, pos: Pos, token: Lexeme, stack: &Vec<Fra
 {
     match token {
         Lexeme::Word(class, name) => match class {
-            WordClass::Plain => wait(level, SmallState::PatternClose(PatternTree::SomeOf(word, name))),
+            WordClass::Plain => wait(
+                level,
+                SmallState::PatternClose(PatternTree::SomeOf(word, name)),
+            ),
             _ => refuse(level),
         },
         _ => refuse(level),
@@ -183,23 +254,43 @@ pub fn some_name(level: u64, word: Sym, pos: Pos, token: Lexeme, stack: &Vec<Fra
 }
 
 /// The bracket that closes a pattern.
-pub fn pattern_close(level: u64, read: PatternTree, pos: Pos, token: Lexeme, stack: &Vec<Frame>) -> Next
+pub fn pattern_close(
+    level: u64,
+    read: PatternTree,
+    pos: Pos,
+    token: Lexeme,
+    stack: &Vec<Frame>,
+) -> Next
     ensures { next_of result (turned [] stack.now.items) ≡ settle (marked close_mark (shallower (done (pattern_of read))) (at pos token)) level (stack_of a_pattern (turned [] stack.now.items)) }
 {
     match token {
-        Lexeme::Close => Next { level: level.saturating_sub(1), turn: Turn::Pattern(read) },
+        Lexeme::Close => Next {
+            level: level.saturating_sub(1),
+            turn: Turn::Pattern(read),
+        },
         _ => refuse(level),
     }
 }
 
 /// A token of a list of patterns.
 #[tactic(auto, using(crate::proofs::SmallLaws::patterns_next, crate::proofs::SmallLaws::patterns_end))]
-pub fn patterns(alloc: Global, level: u64, closer: Closer, read: Items<PatternTree>, pos: Pos, token: Lexeme, stack: &mut Vec<Frame>) -> Result<Next, AllocError>
+pub fn patterns(
+    alloc: Global,
+    level: u64,
+    closer: Closer,
+    read: Items<PatternTree>,
+    pos: Pos,
+    token: Lexeme,
+    stack: &mut Vec<Frame>,
+) -> Result<Next, AllocError>
     requires { level < 2 ^ 32 }
     ensures { IfOk result (λ n. next_of n (turned [] stack.new.items) ≡ settle (patterns_rule (closer_of closer) (patterns_back no_patterns read) (at pos token)) level (stack_of patterns_kind (turned [] stack.old.items))) }
 {
     if closes(closer, &token) {
-        return Ok(Next { level: level.saturating_sub(1), turn: Turn::Patterns(read) });
+        return Ok(Next {
+            level: level.saturating_sub(1),
+            turn: Turn::Patterns(read),
+        });
     }
     stack.push(Frame::Pattern(PatternFrame::Item(closer, read)))?;
     let next = pattern(alloc, level, pos, token, stack)?;

@@ -7,7 +7,9 @@ ghost use Rattle.ath_grammar.specs.Machine.{deliver};
 ghost use Rattle.ath_automaton.specs.Trees.{turned, phrase_of};
 ghost use Rattle.ath_automaton.specs.Configs.{stack_of, next_of, want_of, pair_stack, item_stack, first_stack, row_stack};
 
-use crate::frame::{Closer, FirstFrame, Frame, ItemFrame, PairFrame, RowFrame, PhrasesFrame, Separator, Want};
+use crate::frame::{
+    Closer, FirstFrame, Frame, ItemFrame, PairFrame, PhrasesFrame, RowFrame, Separator, Want,
+};
 use crate::kind::is_deduction;
 use crate::state::{ClauseState, Next, PhraseState, SmallState, State, Turn};
 use crate::tree::PhraseTree;
@@ -18,19 +20,28 @@ use std::alloc::{AllocError, Global};
 fn done(level: u64, tree: PhraseTree) -> Next
     ensures { result ≡ record { level = level; turn = Turn.Phrase tree } }
 {
-    Next { level, turn: Turn::Phrase(tree) }
+    Next {
+        level,
+        turn: Turn::Phrase(tree),
+    }
 }
 
 fn wait(level: u64, state: PhraseState) -> Next
     ensures { result ≡ record { level = level; turn = Turn.Wait (State.Phrase state) } }
 {
-    Next { level, turn: Turn::Wait(State::Phrase(state)) }
+    Next {
+        level,
+        turn: Turn::Wait(State::Phrase(state)),
+    }
 }
 
 fn small(level: u64, state: SmallState) -> Next
     ensures { result ≡ record { level = level; turn = Turn.Wait (State.Small state) } }
 {
-    Next { level, turn: Turn::Wait(State::Small(state)) }
+    Next {
+        level,
+        turn: Turn::Wait(State::Small(state)),
+    }
 }
 
 /// One phrase, the first of a list.
@@ -44,30 +55,51 @@ fn only(alloc: Global, tree: PhraseTree) -> Result<Items<PhraseTree>, AllocError
 
 /// A phrase for what waits for it. A phrase that brackets or a keyword may close.
 #[tactic(auto, using(crate::proofs::Turns::turned_push, crate::proofs::Turns::phrases_push))]
-fn resume_pair(alloc: Global, level: u64, frame: PairFrame, tree: PhraseTree, stack: &mut Vec<Frame>) -> Result<Next, AllocError>
+fn resume_pair(
+    alloc: Global,
+    level: u64,
+    frame: PairFrame,
+    tree: PhraseTree,
+    stack: &mut Vec<Frame>,
+) -> Result<Next, AllocError>
     ensures { IfOk result (λ n. next_of n (turned [] stack.new.items) ≡ deliver (pair_stack frame (λ k. stack_of k (turned [] stack.old.items))) (phrase_of tree) level) }
 {
     match frame {
         PairFrame::OwnPair => Ok(wait(level, PhraseState::OwnClose(tree))),
         PairFrame::Bare => Ok(done(level.saturating_sub(1), tree)),
-        PairFrame::Second(pos, want, word, operator) => Ok(wait(level, PhraseState::Second(pos, want, word, operator, tree))),
+        PairFrame::Second(pos, want, word, operator) => Ok(wait(
+            level,
+            PhraseState::Second(pos, want, word, operator, tree),
+        )),
     }
 }
 
 /// A phrase for what waits for it. A phrase of a list.
 #[tactic(auto, using(crate::proofs::Turns::turned_push, crate::proofs::Turns::phrases_push))]
-fn resume_item(alloc: Global, level: u64, frame: ItemFrame, tree: PhraseTree, stack: &mut Vec<Frame>) -> Result<Next, AllocError>
+fn resume_item(
+    alloc: Global,
+    level: u64,
+    frame: ItemFrame,
+    tree: PhraseTree,
+    stack: &mut Vec<Frame>,
+) -> Result<Next, AllocError>
     ensures { IfOk result (λ n. next_of n (turned [] stack.new.items) ≡ deliver (item_stack frame (λ k. stack_of k (turned [] stack.old.items))) (phrase_of tree) level) }
 {
     match frame {
         ItemFrame::ApplyPart(pos, head) => {
             stack.push(Frame::Phrases(PhrasesFrame::Apply(pos, head)))?;
             let list = only(alloc, tree)?;
-            Ok(small(level, SmallState::Parts(Want::Only(false), Closer::Round, list)))
+            Ok(small(
+                level,
+                SmallState::Parts(Want::Only(false), Closer::Round, list),
+            ))
         }
         ItemFrame::CallHead(pos) => {
             stack.push(Frame::Phrases(PhrasesFrame::Call(pos, tree)))?;
-            Ok(small(level, SmallState::Parts(Want::Any, Closer::Round, Items::new(alloc))))
+            Ok(small(
+                level,
+                SmallState::Parts(Want::Any, Closer::Round, Items::new(alloc)),
+            ))
         }
         ItemFrame::Part(want, closer, read) => {
             let mut read = read;
@@ -84,31 +116,49 @@ fn resume_item(alloc: Global, level: u64, frame: ItemFrame, tree: PhraseTree, st
 
 /// A phrase for what waits for it. The first phrase of a form with alternatives or deductions.
 #[tactic(auto, using(crate::proofs::Turns::turned_push, crate::proofs::Turns::phrases_push))]
-fn resume_first(alloc: Global, level: u64, frame: FirstFrame, tree: PhraseTree, stack: &mut Vec<Frame>) -> Result<Next, AllocError>
+fn resume_first(
+    alloc: Global,
+    level: u64,
+    frame: FirstFrame,
+    tree: PhraseTree,
+    stack: &mut Vec<Frame>,
+) -> Result<Next, AllocError>
     ensures { IfOk result (λ n. next_of n (turned [] stack.new.items) ≡ deliver (first_stack frame (λ k. stack_of k (turned [] stack.old.items))) (phrase_of tree) level) }
 {
     match frame {
         FirstFrame::SeqFirst(pos) => {
             stack.push(Frame::Phrases(PhrasesFrame::Seq(pos)))?;
             let list = only(alloc, tree)?;
-            Ok(small(level, SmallState::Parts(Want::Only(true), Closer::Round, list)))
+            Ok(small(
+                level,
+                SmallState::Parts(Want::Only(true), Closer::Round, list),
+            ))
         }
         FirstFrame::SeqBrace(pos) => {
             stack.push(Frame::Phrases(PhrasesFrame::Seq(pos)))?;
             let list = only(alloc, tree)?;
-            Ok(small(level, SmallState::Tail(Separator::Semicolon, Want::Only(true), list)))
+            Ok(small(
+                level,
+                SmallState::Tail(Separator::Semicolon, Want::Only(true), list),
+            ))
         }
         FirstFrame::TryFirst(pos) => {
             stack.push(Frame::Phrases(PhrasesFrame::Try(pos)))?;
             let kind = is_deduction(&tree);
             let list = only(alloc, tree)?;
-            Ok(small(level, SmallState::Parts(Want::Only(kind), Closer::Round, list)))
+            Ok(small(
+                level,
+                SmallState::Parts(Want::Only(kind), Closer::Round, list),
+            ))
         }
         FirstFrame::TryBrace(pos) => {
             stack.push(Frame::Phrases(PhrasesFrame::Try(pos)))?;
             let kind = is_deduction(&tree);
             let list = only(alloc, tree)?;
-            Ok(small(level, SmallState::Tail(Separator::Bar, Want::Only(kind), list)))
+            Ok(small(
+                level,
+                SmallState::Tail(Separator::Bar, Want::Only(kind), list),
+            ))
         }
     }
 }
@@ -116,12 +166,20 @@ fn resume_first(alloc: Global, level: u64, frame: FirstFrame, tree: PhraseTree, 
 fn clause(level: u64, state: ClauseState) -> Next
     ensures { result ≡ record { level = level; turn = Turn.Wait (State.Clause state) } }
 {
-    Next { level, turn: Turn::Wait(State::Clause(state)) }
+    Next {
+        level,
+        turn: Turn::Wait(State::Clause(state)),
+    }
 }
 
 /// A phrase for what waits for it. A phrase of a closure or of bindings.
 #[tactic(auto, using(crate::proofs::Rows::let_again, crate::proofs::RowLaws::row_pair_next, crate::proofs::RowLaws::row_next))]
-fn resume_row(alloc: Global, level: u64, frame: RowFrame, tree: PhraseTree) -> Result<Next, AllocError>
+fn resume_row(
+    alloc: Global,
+    level: u64,
+    frame: RowFrame,
+    tree: PhraseTree,
+) -> Result<Next, AllocError>
     ensures { IfOk result (λ n. (fs : List Framed) → next_of n fs ≡ deliver (row_stack frame (λ k. stack_of k fs)) (phrase_of tree) level) }
 {
     match frame {

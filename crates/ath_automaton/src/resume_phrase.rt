@@ -5,12 +5,13 @@ ghost use Rattle.ath_grammar.specs.Phrases.{after_row};
 ghost use Rattle.ath_automaton.specs.declared.frame.Frame.{Frame as Framed};
 ghost use Rattle.ath_grammar.specs.Machine.{deliver};
 ghost use Rattle.ath_automaton.specs.Trees.{turned, phrase_of};
-ghost use Rattle.ath_automaton.specs.Configs.{stack_of, next_of, want_of, pair_stack, item_stack, first_stack, row_stack};
+ghost use Rattle.ath_automaton.specs.Configs.{stack_of, next_of, want_of, pair_stack, item_stack, first_stack, row_stack, sentence_stack, whole_stack};
 
-use crate::frame::{Closer, FirstFrame, Frame, ItemFrame, PairFrame, RowFrame, PhrasesFrame, Separator, Want};
+use crate::frame::{Closer, FirstFrame, Frame, ItemFrame, PairFrame, PhraseFrame, PhrasesFrame, RowFrame, SentenceFrame, Separator, Want, WholeFrame};
+use crate::resume::finish;
 use crate::kind::is_deduction;
 use crate::state::{ClauseState, Next, PhraseState, SmallState, State, Turn};
-use crate::tree::PhraseTree;
+use crate::tree::{DirectiveTree, PhraseTree, StatementTree};
 use ath_grammar::LetWord;
 use sqlite_items::{Boxed, Items};
 use std::alloc::{AllocError, Global};
@@ -161,5 +162,48 @@ fn after_row(word: LetWord, want: Want, tree: &PhraseTree) -> Want
                 want
             }
         }
+    }
+}
+
+/// A phrase for what waits for it. A phrase of a form with a sentence or with names.
+#[tactic(auto, using(crate::proofs::Turns::turned_push, crate::proofs::Rows::hypothesis_again, crate::proofs::Rows::pick_again, crate::proofs::Rows::witness_again))]
+fn resume_sentence(alloc: Global, level: u64, frame: SentenceFrame, tree: PhraseTree, stack: &mut Vec<Frame>) -> Result<Next, AllocError>
+    ensures { IfOk result (λ n. next_of n (turned [] stack.new.items) ≡ deliver (sentence_stack frame (λ k. stack_of k (turned [] stack.old.items))) (phrase_of tree) level) }
+{
+    match frame {
+        SentenceFrame::Sentence(word, pos, name) => {
+            stack.push(Frame::Phrase(PhraseFrame::Sentence(SentenceFrame::HypothesisBody(word, pos, name, tree))))?;
+            Ok(wait(level, PhraseState::Start(Want::Only(true))))
+        }
+        SentenceFrame::HypothesisBody(word, pos, name, sentence) => {
+            let sentence = Boxed::new(alloc, sentence)?;
+            let body = Boxed::new(alloc, tree)?;
+            Ok(done(level, PhraseTree::Hypothesis(word, pos, name, sentence, body)))
+        }
+        SentenceFrame::PickBody(pos, binders) => {
+            let body = Boxed::new(alloc, tree)?;
+            Ok(done(level, PhraseTree::PickAny(pos, binders, body)))
+        }
+        SentenceFrame::Witness(pos, name) => {
+            stack.push(Frame::Phrase(PhraseFrame::Sentence(SentenceFrame::WitnessBody(pos, name, tree))))?;
+            Ok(wait(level, PhraseState::Start(Want::Only(true))))
+        }
+        SentenceFrame::WitnessBody(pos, name, first) => {
+            let first = Boxed::new(alloc, first)?;
+            let body = Boxed::new(alloc, tree)?;
+            Ok(done(level, PhraseTree::PickWitness(pos, name, first, body)))
+        }
+    }
+}
+
+/// A phrase for what waits for it. The phrase of a directive.
+fn resume_whole(level: u64, frame: WholeFrame, tree: PhraseTree) -> Next
+    ensures { (fs : List Framed) → next_of result fs ≡ deliver (whole_stack frame (λ k. stack_of k fs)) (phrase_of tree) level }
+{
+    match frame {
+        WholeFrame::Said(pos) => Next { level, turn: Turn::Directive(DirectiveTree { pos, statement: StatementTree::Phrase(tree) }) },
+        WholeFrame::DefineBody(own, pos, name) => finish(level, own, DirectiveTree { pos, statement: StatementTree::Define(name, tree) }),
+        WholeFrame::FunBody(own, pos, name, params) => finish(level, own, DirectiveTree { pos, statement: StatementTree::DefineFun(name, params, tree) }),
+        WholeFrame::Asserted(own, pos, closed, name) => finish(level, own, DirectiveTree { pos, statement: StatementTree::Assert(name, closed, tree) }),
     }
 }

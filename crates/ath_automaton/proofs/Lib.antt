@@ -1,3 +1,4 @@
+pub mod ClauseLaws
 pub mod RowLaws
 pub mod Rows
 pub mod SmallLaws

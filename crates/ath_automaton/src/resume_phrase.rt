@@ -5,9 +5,9 @@ ghost use Rattle.ath_grammar.specs.Phrases.{after_row};
 ghost use Rattle.ath_automaton.specs.declared.frame.Frame.{Frame as Framed};
 ghost use Rattle.ath_grammar.specs.Machine.{deliver};
 ghost use Rattle.ath_automaton.specs.Trees.{turned, phrase_of};
-ghost use Rattle.ath_automaton.specs.Configs.{stack_of, next_of, want_of, pair_stack, item_stack, first_stack, row_stack, sentence_stack, whole_stack};
+ghost use Rattle.ath_automaton.specs.Configs.{stack_of, next_of, want_of, pair_stack, item_stack, first_stack, row_stack, sentence_stack, whole_stack, clause_stack};
 
-use crate::frame::{Closer, FirstFrame, Frame, ItemFrame, PairFrame, PhraseFrame, PhrasesFrame, RowFrame, SentenceFrame, Separator, Want, WholeFrame};
+use crate::frame::{ClauseFrame, Closer, FirstFrame, Frame, ItemFrame, PairFrame, PhraseFrame, PhrasesFrame, RowFrame, SentenceFrame, Separator, Want, WholeFrame};
 use crate::resume::finish;
 use crate::kind::is_deduction;
 use crate::state::{ClauseState, Next, PhraseState, SmallState, State, Turn};
@@ -205,5 +205,27 @@ fn resume_whole(level: u64, frame: WholeFrame, tree: PhraseTree) -> Next
         WholeFrame::DefineBody(own, pos, name) => finish(level, own, DirectiveTree { pos, statement: StatementTree::Define(name, tree) }),
         WholeFrame::FunBody(own, pos, name, params) => finish(level, own, DirectiveTree { pos, statement: StatementTree::DefineFun(name, params, tree) }),
         WholeFrame::Asserted(own, pos, closed, name) => finish(level, own, DirectiveTree { pos, statement: StatementTree::Assert(name, closed, tree) }),
+    }
+}
+
+/// A phrase for what waits for it. A phrase of a form with clauses.
+fn resume_clause(level: u64, frame: ClauseFrame, tree: PhraseTree) -> Result<Next, AllocError>
+    ensures { IfOk result (λ n. (fs : List Framed) → next_of n fs ≡ deliver (clause_stack frame (λ k. stack_of k fs)) (phrase_of tree) level) }
+{
+    match frame {
+        ClauseFrame::Scrutinee(word, pos, want) => Ok(clause(level, ClauseState::Open(word, pos, want, tree))),
+        ClauseFrame::ScrutineeInside(word, pos, want) => Ok(clause(level, ClauseState::Inside(word, pos, want, tree))),
+        ClauseFrame::ClausePair(word, pos, scrutinee, clauses, pattern) => {
+            let kind = is_deduction(&tree);
+            let mut clauses = clauses;
+            clauses.push((pattern, tree))?;
+            Ok(clause(level, ClauseState::Close(word, pos, scrutinee, Want::Only(kind), clauses)))
+        }
+        ClauseFrame::ClauseRow(word, pos, scrutinee, clauses, pattern) => {
+            let kind = is_deduction(&tree);
+            let mut clauses = clauses;
+            clauses.push((pattern, tree))?;
+            Ok(clause(level, ClauseState::More(word, pos, scrutinee, Want::Only(kind), clauses)))
+        }
     }
 }

@@ -1,3 +1,4 @@
+pub mod BranchLaws
 pub mod ClauseLaws
 pub mod RowLaws
 pub mod Rows

@@ -5,9 +5,9 @@ ghost use Rattle.ath_grammar.specs.Phrases.{after_row};
 ghost use Rattle.ath_automaton.specs.declared.frame.Frame.{Frame as Framed};
 ghost use Rattle.ath_grammar.specs.Machine.{deliver};
 ghost use Rattle.ath_automaton.specs.Trees.{turned, phrase_of};
-ghost use Rattle.ath_automaton.specs.Configs.{stack_of, next_of, want_of, pair_stack, item_stack, first_stack, row_stack, sentence_stack, whole_stack, clause_stack};
+ghost use Rattle.ath_automaton.specs.Configs.{stack_of, next_of, want_of, pair_stack, item_stack, first_stack, row_stack, sentence_stack, whole_stack, clause_stack, branch_stack};
 
-use crate::frame::{ClauseFrame, Closer, FirstFrame, Frame, ItemFrame, PairFrame, PhraseFrame, PhrasesFrame, RowFrame, SentenceFrame, Separator, Want, WholeFrame};
+use crate::frame::{BranchFrame, ClauseFrame, Closer, FirstFrame, Frame, ItemFrame, PairFrame, PhraseFrame, PhrasesFrame, RowFrame, SentenceFrame, Separator, Want, WholeFrame};
 use crate::resume::finish;
 use crate::kind::is_deduction;
 use crate::state::{ClauseState, Next, PhraseState, SmallState, State, Turn};
@@ -226,6 +226,40 @@ fn resume_clause(level: u64, frame: ClauseFrame, tree: PhraseTree) -> Result<Nex
             let mut clauses = clauses;
             clauses.push((pattern, tree))?;
             Ok(clause(level, ClauseState::More(word, pos, scrutinee, Want::Only(kind), clauses)))
+        }
+    }
+}
+
+/// A phrase for what waits for it. A phrase of a `check`.
+#[tactic(auto, using(crate::proofs::Turns::turned_push))]
+fn resume_branch(alloc: Global, level: u64, frame: BranchFrame, tree: PhraseTree, stack: &mut Vec<Frame>) -> Result<Next, AllocError>
+    ensures { IfOk result (λ n. next_of n (turned [] stack.new.items) ≡ deliver (branch_stack frame (λ k. stack_of k (turned [] stack.old.items))) (phrase_of tree) level) }
+{
+    match frame {
+        BranchFrame::BranchCondition(pos, want, branches) => {
+            stack.push(Frame::Phrase(PhraseFrame::Branch(BranchFrame::BranchPair(pos, branches, tree))))?;
+            Ok(wait(level, PhraseState::Start(want)))
+        }
+        BranchFrame::BranchPair(pos, branches, condition) => {
+            let kind = is_deduction(&tree);
+            let mut branches = branches;
+            branches.push((condition, tree))?;
+            Ok(clause(level, ClauseState::BranchClose(pos, Want::Only(kind), branches)))
+        }
+        BranchFrame::RowCondition(pos, want, branches) => Ok(clause(level, ClauseState::BranchArrow(pos, want, branches, tree))),
+        BranchFrame::BranchRow(pos, branches, condition) => {
+            let kind = is_deduction(&tree);
+            let mut branches = branches;
+            branches.push((condition, tree))?;
+            Ok(clause(level, ClauseState::BranchMore(pos, Want::Only(kind), branches)))
+        }
+        BranchFrame::ElsePair(pos, branches) => {
+            let body = Boxed::new(alloc, tree)?;
+            Ok(clause(level, ClauseState::ElseClose(PhraseTree::Check(pos, branches, Some(body)))))
+        }
+        BranchFrame::ElseRow(pos, branches) => {
+            let body = Boxed::new(alloc, tree)?;
+            Ok(clause(level, ClauseState::ElseBrace(PhraseTree::Check(pos, branches, Some(body)))))
         }
     }
 }

@@ -1,5 +1,5 @@
 -- A clause of `check` that is read joins those before it.
-use Rattle.std.proofs.Common.{◌≡◌, ℕ, List, [], ◌∷◌, ◌++◌, Bool, true, Some, refl, sym, ap, ◌∙◌}
+use Rattle.std.proofs.Common.{◌≡◌, ℕ, List, [], ◌∷◌, ◌++◌, Bool, true, Some, sym, ap, ◌∙◌}
 use Rattle.ath_syntax.specs.declared.place.Pos.{Pos}
 use Rattle.ath_syntax.specs.Tree.{Phrase, Branches, no_branches, more_branches, is_deduction}
 use Rattle.ath_grammar.specs.Kinds.{only}

@@ -1,5 +1,5 @@
 -- A clause that is read joins those before it.
-use Rattle.std.proofs.Common.{◌≡◌, ℕ, List, [], ◌∷◌, ◌++◌, Bool, true, refl, sym, ap, ◌∙◌}
+use Rattle.std.proofs.Common.{◌≡◌, ℕ, List, [], ◌∷◌, ◌++◌, Bool, true, sym, ap, ◌∙◌}
 use Rattle.ath_syntax.specs.declared.place.Pos.{Pos}
 use Rattle.ath_syntax.specs.Tree.{Clauses, no_clauses, more_clauses, is_deduction}
 use Rattle.ath_grammar.specs.declared.lexeme.ClauseWord.{ClauseWord}

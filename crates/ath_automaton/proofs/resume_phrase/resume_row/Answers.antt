@@ -1,5 +1,4 @@
 -- The binding that is read joins those before it.
-use Rattle.std.proofs.Common.{rules}
 use Rattle.ath_automaton.proofs.RowLaws.{row_pair_next, row_next}
 use Rattle.ath_automaton.proofs.resume_phrase.resume_row.Goals as goal
 

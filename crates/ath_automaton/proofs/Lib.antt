@@ -1,3 +1,5 @@
+pub mod BranchLaws
+pub mod ClauseLaws
 pub mod RowLaws
 pub mod Rows
 pub mod SmallLaws

@@ -2,18 +2,20 @@
 use Rattle.std.proofs.Common.{◌≡◌, List, [], ◌∷◌, ◌++◌, map, None, Some, refl, sym, ap, ◌∙◌}
 use Rattle.ath_sorts.specs.declared.sorts.Sym.{Sym}
 use Rattle.ath_syntax.specs.declared.place.Pos.{Pos}
-use Rattle.ath_syntax.specs.Tree.{Phrase, Bindings, no_bindings, more_bindings, Clauses, no_clauses, more_clauses, Branches, no_branches, more_branches, check_at, no_else, else_phrase}
+use Rattle.ath_syntax.specs.Tree.{Phrase, Bindings, no_bindings, more_bindings, Clauses, no_clauses, more_clauses, Branches, no_branches, more_branches, check_at, no_else, else_phrase, pick_any_at, pick_witness_at}
 use Rattle.ath_grammar.specs.declared.lexeme.LetWord.{LetWord}
 use Rattle.ath_grammar.specs.declared.lexeme.ClauseWord.{ClauseWord}
-use Rattle.ath_grammar.specs.Phrases.{let_phrase, clauses_at}
+use Rattle.ath_syntax.specs.declared.node.SortText.{SortText}
+use Rattle.ath_grammar.specs.declared.lexeme.HypothesisWord.{HypothesisWord}
+use Rattle.ath_grammar.specs.Phrases.{let_phrase, clauses_at, hypothesis_at}
 use Rattle.ath_grammar.specs.PhraseRules.{check_done}
-use Rattle.ath_grammar.specs.Lists.{put_bindings, put_clauses, put_branches}
+use Rattle.ath_grammar.specs.Lists.{put, put_bindings, put_clauses, put_branches}
 use Rattle.ath_automaton.specs.declared.tree.PatternTree.{PatternTree}
-use Rattle.ath_automaton.specs.declared.tree.PhraseTree.{PhraseTree, Let, Clauses as Clausal, Check}
+use Rattle.ath_automaton.specs.declared.tree.PhraseTree.{PhraseTree, Let, Clauses as Clausal, Check, Hypothesis, PickAny, PickWitness}
 use Rattle.ath_automaton.specs.declared.tree.PhraseTree.TheOpen as one
-use Rattle.ath_automaton.specs.declared.tree.PhraseTree.TheVariants.{rolls-Let, rolls-Clauses, rolls-Check}
+use Rattle.ath_automaton.specs.declared.tree.PhraseTree.TheVariants.{rolls-Let, rolls-Clauses, rolls-Check, rolls-Hypothesis, rolls-PickAny, rolls-PickWitness}
 use Rattle.ath_automaton.specs.declared.tree.PhraseTree.TheFolds.{fold-roll-PhraseTree}
-use Rattle.ath_automaton.specs.Trees.{pattern_of, phrase_of, phrase_step, bindings_of, clauses_of, branches_of, rows_back, clauses_back, branches_back}
+use Rattle.ath_automaton.specs.Trees.{pattern_of, phrase_of, phrase_step, turned, back, bindings_of, clauses_of, branches_of, rows_back, clauses_back, branches_back}
 
 pub rows_push : (d : Bindings) (bs : List (Sym × PhraseTree)) (b : Sym × PhraseTree) → rows_back d (bs ++ b ∷ []) ≡ more_bindings b.0 (phrase_of b.1) (rows_back d bs)
 rows_push d [] b = refl
@@ -50,3 +52,16 @@ check_again p bs = ap phrase_of (sym (rolls-Check p bs None)) ∙ fold-roll-Phra
 
 pub else_again : (p : Pos) (bs : List (PhraseTree × PhraseTree)) (x : PhraseTree) → phrase_of (Check p bs (Some x)) ≡ check_done p (branches_back no_branches bs) (phrase_of x)
 else_again p bs x = ap phrase_of (sym (rolls-Check p bs (Some x))) ∙ fold-roll-PhraseTree Phrase phrase_step (one.Check p bs (Some x)) ∙ sym (ap (λ (cs : Branches). check_at p cs (else_phrase (phrase_of x))) (branches_put no_branches bs))
+
+put_back : {A : Type 0} (ys xs : List A) → put (turned ys xs) [] ≡ put ys xs
+put_back ys [] = refl
+put_back ys (x ∷ xs) = put_back (x ∷ ys) xs
+
+pub hypothesis_again : (h : HypothesisWord) (p : Pos) (n : Option Sym) (e d : PhraseTree) → phrase_of (Hypothesis h p n e d) ≡ hypothesis_at h p n (phrase_of e) (phrase_of d)
+hypothesis_again h p n e d = ap phrase_of (sym (rolls-Hypothesis h p n e d)) ∙ fold-roll-PhraseTree Phrase phrase_step (one.Hypothesis h p n e d)
+
+pub pick_again : (p : Pos) (bs : List (Sym × Option SortText)) (d : PhraseTree) → phrase_of (PickAny p bs d) ≡ pick_any_at p (put (back bs) []) (phrase_of d)
+pick_again p bs d = ap phrase_of (sym (rolls-PickAny p bs d)) ∙ fold-roll-PhraseTree Phrase phrase_step (one.PickAny p bs d) ∙ ap (λ (cs : List (Sym × Option SortText)). pick_any_at p cs (phrase_of d)) (sym (put_back [] bs))
+
+pub witness_again : (p : Pos) (n : Sym) (f d : PhraseTree) → phrase_of (PickWitness p n f d) ≡ pick_witness_at p n (phrase_of f) (phrase_of d)
+witness_again p n f d = ap phrase_of (sym (rolls-PickWitness p n f d)) ∙ fold-roll-PhraseTree Phrase phrase_step (one.PickWitness p n f d)

@@ -44,10 +44,10 @@ first-reads = record {
   cut = refl;
   nested = refl;
   spelled =
-    steps_more (is_declare refl (some_declared refl (names_more refl names_end)) refl)
-    (steps_more (is_assert refl (is_if refl (is_name refl) (is_name refl)))
-    (steps_more (is_assert refl (is_name refl))
-    (steps_more (is_mp refl (is_if refl (is_name refl) (is_name refl)) (is_name refl)) steps_end)));
+      steps_more (is_declare refl (some_declared refl (names_more refl names_end)) refl)
+      (steps_more (is_assert refl (is_if refl (is_name refl) (is_name refl)))
+      (steps_more (is_assert refl (is_name refl))
+      (steps_more (is_mp refl (is_if refl (is_name refl) (is_name refl)) (is_name refl)) steps_end)));
   distinct = refl;
 }
 

@@ -1,5 +1,6 @@
 -- A run, directive by directive.
 use Rattle.std.proofs.Common.{◌≡◌, ◌<◌, ◌≤◌, ◌+◌, ℕ, zero, suc, Bool, true, false, ◌||◌, List, [], ◌∷◌, ◌++◌, length, map, take, drop, get_or, Option, refl, sym, ◌∙◌, ap, arith}
+use Rattle.std.proofs.lemmas.List.{map-append}
 use Rattle.std.specs.List.{list_any}
 use Rattle.std.specs.Prelude.{slice_index_or}
 use Rattle.ath_io.specs.Sink.{Held, with_put, with_puts}
@@ -46,10 +47,6 @@ item_at [] (suc n) y d ys l e = absurd (cc)
 item_at (x ∷ xs) zero y d ys l e = cc
 item_at (x ∷ xs) (suc n) y d ys l e = item_at xs n y d ys (omega arith) e
 
-map-push : {A B : Type 0} (f : A → B) (xs : List A) (x : A) → map f (xs ++ x ∷ []) ≡ map f xs ++ f x ∷ []
-map-push f [] x = refl
-map-push f (y ∷ ys) x = ap (λ zs. f y ∷ zs) (map-push f ys x)
-
 any-push : {A : Type 0} (f : A → Bool) (xs : List A) (x : A) → list_any f (xs ++ x ∷ []) ≡ (list_any f xs || f x)
 any-push f [] x = or_false (f x)
   where
@@ -91,7 +88,7 @@ module _ (told : List Said) (file : List ℕ) (st : State) (step : Step) (left :
       record {
         within = let m = more_than told n next (run file (ran st step).state left) so.within next_is in omega arith;
         rest = drop-next told n next (run file (ran st step).state left) so.within next_is ∙ ap (λ x. run file x left) (sym s);
-        written = w ∙ ap (λ x. with_put x next.line) so.written ∙ sym (rw (t, map-push (λ s. s.line) (take n told) next) (with_puts-append before (map (λ s. s.line) (take n told)) (next.line ∷ [])));
+        written = w ∙ ap (λ x. with_put x next.line) so.written ∙ sym (rw (t, map-append (λ s. s.line) (take n told) (next ∷ [])) (with_puts-append before (map (λ s. s.line) (take n told)) (next.line ∷ [])));
         error = rw (t, any-push (λ s. is_refused s.event) (take n told) next, e, so.error) refl;
       }
 

@@ -41,7 +41,7 @@ among-append (s ∷ ss) ts n d e = go (s.name.0 == n.0) (among-append ss ts n d)
     go true rec f = f
     go false rec f = rec f
 
-same_number : (m n : ℕ) → (m == n) ≡ true → m ≡ n
+pub same_number : (m n : ℕ) → (m == n) ≡ true → m ≡ n
 same_number m n e = grind (arith, common_steps)
 
 number-refl : (m : ℕ) → (m == m) ≡ true

@@ -24,6 +24,7 @@ use Rattle.ath_eval.specs.Report.{said, run, IsReading, told_of}
 use Rattle.ath_eval.specs.Events.{Refusal, unbound, wrong_shape, not_in_base, not_built, Event, declared, asserted, proved, refused}
 use Rattle.ath_eval.specs.Lines.{conn_text, printed, listed_after, listed, hex_digit, escaped, quoted, refusal_text, place_text}
 use Rattle.ath_eval.specs.Laws.{has_line_end, IsLine}
+use Rattle.ath_eval.proofs.Sound.{same_number}
 
 -- no byte is LF
 record Plain (text : List ℕ) : Type 0 where
@@ -144,9 +145,6 @@ refusal-plain names h (not_in_base p) e = plain-append (plain (codes "NotInBase 
 refusal-plain names h not_built e = plain (codes "NotBuilt") refl
 
 -- ---- the words of tokens
-same_number : (c b : ℕ) → (c == b) ≡ true → c ≡ b
-same_number c b e = grind (arith, common_steps)
-
 word-byte-plain : (b : ℕ) → is_word_byte b ≡ true → (b == 10) ≡ false
 word-byte-plain b e = by (b == 10) refl
   where

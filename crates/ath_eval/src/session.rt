@@ -137,7 +137,7 @@ impl Session {
         }
     }
 
-    /// Runs a directive, and says what it did.
+    /// Runs a directive, and says what it did. Where memory is wanted, it may be done in part, and the run has to end.
     pub fn directive(&mut self, alloc: Global, directive: &Directive) -> Result<Event, AllocError>
         requires { IsShort (step_of directive.now) }
         ensures known { IfOk result (IsEventIn self.new.store) }

@@ -1,3 +1,4 @@
 pub mod FormLaws
 pub mod InsideLaws
+pub mod KindLaws
 pub mod ListLaws

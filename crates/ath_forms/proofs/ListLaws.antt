@@ -45,8 +45,8 @@ module _ (read : List PhraseTree) (p : Pos) (n : ℕ) (ks : Stack phrases_kind) 
   pub parts_end : (w : grammar.Want) (c : Closer) (t : Lexeme) → is_closing c t ≡ true → deliver ks (phrases_of (map phrase_of read)) (n - 1) ≡ settle (parts_rule w (closer_of c) (phrases_back no_phrases read) (at p t)) n ks
   parts_end w c t h = whole ∙ sym (parts_shut w c t h)
 
-  pub tail_end : (s : Separator) (w : grammar.Want) → deliver ks (phrases_of (map phrase_of read)) (n - 1) ≡ settle (tail_rule s w (phrases_back no_phrases read) (at p CloseBrace)) n ks
-  tail_end s w = whole
+  pub tail_end : (s : Separator) (w : grammar.Want) (t : Lexeme) → t ≡ CloseBrace → deliver ks (phrases_of (map phrase_of read)) (n - 1) ≡ settle (tail_rule s w (phrases_back no_phrases read) (at p t)) n ks
+  tail_end s w t e = whole ∙ sym (ap (λ (u : Lexeme). settle (tail_rule s w (phrases_back no_phrases read) (at p u)) n ks) e)
 
 pub parts_next : (w : Want) (c : Closer) (read : List PhraseTree) (p : Pos) (t : Lexeme) (level : ℕ) (old new last : List Frame) (m : Move) → is_closing c t ≡ false → new ≡ old ++ f.Phrase (x.Item (item.Part w c read)) ∷ [] → moved m (turned [] last) ≡ settle (phrase_rule (want_of w) (at p t)) level (stack_of a_phrase (turned [] new)) → moved m (turned [] last) ≡ settle (parts_rule (want_of w) (closer_of c) (phrases_back no_phrases read) (at p t)) level (stack_of phrases_kind (turned [] old))
 parts_next w c read p t level old new last m h e g = g ∙ ap (λ (fs : List Frame). settle (phrase_rule (want_of w) (at p t)) level (stack_of a_phrase fs)) (ap (turned []) e ∙ turned_push [] old (f.Phrase (x.Item (item.Part w c read)))) ∙ sym (parts_on read p level (stack_of phrases_kind (turned [] old)) (want_of w) c t h)

@@ -81,7 +81,7 @@ pub fn fitting(fits: bool, next: Next) -> Move
 }
 
 /// An answer where kinds also have to fit elsewhere.
-#[tactic(auto, using(ath_grammar::proofs::Handed::also_both))]
+#[tactic(auto, using(ath_grammar::proofs::Handed::also_true, crate::proofs::KindLaws::also_false))]
 pub fn also(fits: bool, answer: Move) -> Move
     ensures { (fs : List Framed) → moved result fs ≡ also fits (moved answer fs) }
 {

@@ -62,6 +62,13 @@ fn is_operator(token: &Lexeme) -> bool
     }
 }
 
+/// Whether a second item is an operator, where this says whether the first is one.
+fn clashes(first: bool, token: &Lexeme) -> bool
+    ensures { result ≡ clashes first (is_operator token.now) }
+{
+    is_operator(token) && !first
+}
+
 /// The token behind the parenthesis at this place.
 pub fn inside(
     alloc: Global,
@@ -156,7 +163,7 @@ fn own_form(
 }
 
 /// The first item of a parenthesis that is no form.
-#[tactic(auto, using(crate::proofs::InsideLaws::item_next, crate::proofs::InsideLaws::item_off))]
+#[tactic(auto, using(crate::proofs::InsideLaws::item_next))]
 fn first_item(
     alloc: Global,
     level: u64,
@@ -228,7 +235,7 @@ fn alone(alloc: Global, paren: Pos, word: bool, first: PhraseTree) -> Result<Phr
 }
 
 /// The second item of a parenthesis.
-#[tactic(auto, using(crate::proofs::InsideLaws::second_next, crate::proofs::InsideLaws::second_off))]
+#[tactic(auto, using(crate::proofs::InsideLaws::second_next))]
 fn second_item(
     alloc: Global,
     level: u64,
@@ -243,7 +250,7 @@ fn second_item(
     requires { level < 2 ^ 32 }
     ensures { IfOk result (λ m. moved m (turned [] stack.new.items) ≡ settle (unless (clashes operator (is_operator token.now)) (check (heads (want_of want) (phrase_of first)) (apply_rule paren (phrase_of first) (at pos token.now)))) level (stack_of a_phrase (turned [] stack.old.items))) }
 {
-    if is_operator(token) && !operator {
+    if clashes(operator, token) {
         return Ok(free(refuse(level)));
     }
     let fits = heads(want, &first);

@@ -7,7 +7,7 @@ use Rattle.ath_grammar.specs.declared.lexeme.Lexeme.{Lexeme}
 use Rattle.ath_grammar.specs.declared.lexeme.Lexeme.TheVariants.{Form, Bang, Close, Colon}
 use Rattle.ath_grammar.specs.Kinds as grammar
 use Rattle.ath_grammar.specs.Tokens.{at, is_first_item, is_word, is_operator, clashes}
-use Rattle.ath_grammar.specs.Rules.{a_phrase, Rule, token, push, check}
+use Rattle.ath_grammar.specs.Rules.{a_phrase, token, push, check}
 use Rattle.ath_grammar.specs.SmallRules.{when, unless}
 use Rattle.ath_grammar.specs.Machine.{Stack, frame, also, settle}
 use Rattle.ath_grammar.specs.PhraseRules.{phrase_rule, heads, apply_rule, second_rule, inside_rule}

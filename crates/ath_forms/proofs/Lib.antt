@@ -1,4 +1,3 @@
 pub mod FormLaws
 pub mod InsideLaws
-pub mod KindLaws
 pub mod ListLaws

@@ -1,7 +1,6 @@
 // The answers of steps, and which kinds fit.
 
 ghost use Rattle.std.specs.Prelude.{◌≡◌, List, true};
-ghost use Rattle.ath_syntax.specs.Tree.{is_deduction};
 ghost use Rattle.ath_grammar.specs.Kinds.{fits};
 ghost use Rattle.ath_grammar.specs.Phrases.{let_fits, let_want, clause_fits, clause_want};
 ghost use Rattle.ath_grammar.specs.PhraseRules.{heads};
@@ -81,17 +80,13 @@ pub fn fitting(fits: bool, next: Next) -> Move
 }
 
 /// An answer where kinds also have to fit elsewhere.
-#[tactic(auto, using(ath_grammar::proofs::Handed::also_true, crate::proofs::KindLaws::also_false))]
+#[tactic(auto, using(ath_grammar::proofs::Handed::also_both, ath_grammar::proofs::Handed::also_true))]
 pub fn also(fits: bool, answer: Move) -> Move
     ensures { (fs : List Framed) → moved result fs ≡ also fits (moved answer fs) }
 {
-    if fits {
-        answer
-    } else {
-        Move {
-            fits: false,
-            next: answer.next,
-        }
+    Move {
+        fits: fits && answer.fits,
+        next: answer.next,
     }
 }
 

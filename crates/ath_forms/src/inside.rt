@@ -163,7 +163,6 @@ fn own_form(
 }
 
 /// The first item of a parenthesis that is no form.
-#[tactic(auto, using(crate::proofs::InsideLaws::item_next))]
 fn first_item(
     alloc: Global,
     level: u64,
@@ -235,7 +234,6 @@ fn alone(alloc: Global, paren: Pos, word: bool, first: PhraseTree) -> Result<Phr
 }
 
 /// The second item of a parenthesis.
-#[tactic(auto, using(crate::proofs::InsideLaws::second_next))]
 fn second_item(
     alloc: Global,
     level: u64,

@@ -10,7 +10,7 @@ also_true no = refl
 also_true (on b st) = refl
 also_true (over b d) = refl
 
-also_both : (b c : Bool) (o : Outcome) → also (both b c) o ≡ also b (also c o)
+pub also_both : (b c : Bool) (o : Outcome) → also (both b c) o ≡ also b (also c o)
 also_both true c no = refl
 also_both false c no = refl
 also_both true c (on e st) = refl

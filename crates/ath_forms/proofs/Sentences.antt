@@ -1,0 +1,28 @@
+-- A sentence that isn't named goes on with what it begins with.
+use Rattle.std.proofs.Common.{◌≡◌, ℕ, List, [], ◌∷◌, ◌++◌, Bool, true, false, None, refl, sym, ap, ◌∙◌}
+use Rattle.ath_sorts.specs.declared.sorts.Sym.{Sym}
+use Rattle.ath_syntax.specs.declared.place.Pos.{Pos}
+use Rattle.ath_grammar.specs.declared.lexeme.HypothesisWord.{HypothesisWord}
+use Rattle.ath_grammar.specs.declared.lexeme.WordClass.TheVariants.{Plain}
+use Rattle.ath_grammar.specs.declared.lexeme.Lexeme.{Lexeme}
+use Rattle.ath_grammar.specs.declared.lexeme.Lexeme.TheVariants.{Word}
+use Rattle.ath_grammar.specs.Kinds as grammar
+use Rattle.ath_grammar.specs.Tokens.{at, is_name}
+use Rattle.ath_grammar.specs.Rules.{a_phrase}
+use Rattle.ath_grammar.specs.PhraseRules.{hypothesis_body, hypothesis_rule, phrase_rule}
+use Rattle.ath_grammar.specs.Machine.{Stack, frame, settle}
+use Rattle.ath_automaton.specs.declared.frame.SentenceFrame.TheVariants as sentence
+use Rattle.ath_automaton.specs.declared.frame.PhraseFrame.TheVariants as x
+use Rattle.ath_automaton.specs.declared.frame.Frame.{Frame}
+use Rattle.ath_automaton.specs.declared.frame.Frame.TheVariants as f
+use Rattle.ath_automaton.specs.declared.state.Move.{Move}
+use Rattle.ath_automaton.specs.Trees.{turned}
+use Rattle.ath_automaton.specs.Configs.{stack_of, moved}
+use Rattle.ath_automaton.proofs.Turns.{turned_push}
+
+sentence_on : (h : HypothesisWord) (p q : Pos) (t : Lexeme) (n : ℕ) (ks : Stack a_phrase) → is_name t ≡ false → settle (hypothesis_rule h p (at q t)) n ks ≡ settle (phrase_rule (grammar.only false) (at q t)) n (frame (hypothesis_body h p None) ks)
+sentence_on h p q (Word Plain m) n ks e = cc
+sentence_on h p q t n ks e = refl
+
+pub sentence_next : (h : HypothesisWord) (p q : Pos) (t : Lexeme) (level : ℕ) (old new last : List Frame) (m : Move) → is_name t ≡ false → new ≡ old ++ f.Phrase (x.Sentence (sentence.Sentence h p None)) ∷ [] → moved m (turned [] last) ≡ settle (phrase_rule (grammar.only false) (at q t)) level (stack_of a_phrase (turned [] new)) → moved m (turned [] last) ≡ settle (hypothesis_rule h p (at q t)) level (stack_of a_phrase (turned [] old))
+sentence_next h p q t level old new last m no e g = g ∙ ap (λ (fs : List Frame). settle (phrase_rule (grammar.only false) (at q t)) level (stack_of a_phrase fs)) (ap (turned []) e ∙ turned_push [] old (f.Phrase (x.Sentence (sentence.Sentence h p None)))) ∙ sym (sentence_on h p q t level (stack_of a_phrase (turned [] old)) no)

@@ -1,3 +1,4 @@
 pub mod Attempts
 pub mod Names
+pub mod Picks
 pub mod Sentences

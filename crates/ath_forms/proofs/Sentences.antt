@@ -25,4 +25,4 @@ sentence_on h p q (Word Plain m) n ks e = cc
 sentence_on h p q t n ks e = refl
 
 pub sentence_next : (h : HypothesisWord) (p q : Pos) (t : Lexeme) (level : ℕ) (old new last : List Frame) (m : Move) → is_name t ≡ false → new ≡ old ++ f.Phrase (x.Sentence (sentence.Sentence h p None)) ∷ [] → moved m (turned [] last) ≡ settle (phrase_rule (grammar.only false) (at q t)) level (stack_of a_phrase (turned [] new)) → moved m (turned [] last) ≡ settle (hypothesis_rule h p (at q t)) level (stack_of a_phrase (turned [] old))
-sentence_next h p q t level old new last m no e g = g ∙ ap (λ (fs : List Frame). settle (phrase_rule (grammar.only false) (at q t)) level (stack_of a_phrase fs)) (ap (turned []) e ∙ turned_push [] old (f.Phrase (x.Sentence (sentence.Sentence h p None)))) ∙ sym (sentence_on h p q t level (stack_of a_phrase (turned [] old)) no)
+sentence_next h p q t level old new last m u e g = g ∙ ap (λ (fs : List Frame). settle (phrase_rule (grammar.only false) (at q t)) level (stack_of a_phrase fs)) (ap (turned []) e ∙ turned_push [] old (f.Phrase (x.Sentence (sentence.Sentence h p None)))) ∙ sym (sentence_on h p q t level (stack_of a_phrase (turned [] old)) u)

@@ -94,7 +94,6 @@ fn with_bare(binders: Binders, name: Sym) -> Result<Binders, AllocError>
 }
 
 /// A token behind a name without a sort, where another name follows.
-#[tactic(auto, using(crate::proofs::Names::binders_again))]
 pub fn next_binder(
     level: u64,
     place: Pos,
@@ -139,7 +138,7 @@ pub fn pick_body(
 }
 
 /// What waits for the body, behind these names and one without a sort.
-#[tactic(auto, using(crate::proofs::Names::body_again))]
+#[tactic(auto, using(crate::proofs::Picks::body_again))]
 pub fn name_body(
     level: u64,
     place: Pos,
@@ -155,6 +154,7 @@ pub fn name_body(
 }
 
 /// The last name where neither a name nor a body follows: behind others it is the body, where kinds aren't told apart.
+#[tactic(auto, using(crate::proofs::Picks::last_next))]
 pub fn pick_last(
     alloc: Global,
     level: u64,

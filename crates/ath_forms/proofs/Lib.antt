@@ -1,4 +1,5 @@
 pub mod Attempts
 pub mod Names
 pub mod Picks
+pub mod RowSteps
 pub mod Sentences

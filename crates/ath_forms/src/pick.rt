@@ -154,7 +154,6 @@ pub fn name_body(
 }
 
 /// The last name where neither a name nor a body follows: behind others it is the body, where kinds aren't told apart.
-#[tactic(auto, using(crate::proofs::Picks::last_next))]
 pub fn pick_last(
     alloc: Global,
     level: u64,

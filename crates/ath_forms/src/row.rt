@@ -80,7 +80,7 @@ fn is_among(name: Sym, rows: &Rows) -> bool
 }
 
 /// Whether a binding of this name may not join these.
-#[tactic(auto, using(crate::proofs::Names::among_rows))]
+#[tactic(auto, using(crate::proofs::Names::rec_repeats))]
 fn repeats(word: LetWord, name: Sym, rows: &Rows) -> bool
     ensures { result ≡ repeats word name (names_of (rows_back no_bindings rows.now)) }
 {
@@ -111,28 +111,8 @@ fn bound_to(level: u64, word: LetWord, want: Want) -> Next
     }
 }
 
-/// The name of a binding in parentheses, that is no keyword.
-#[tactic(auto, using(ath_automaton::proofs::Turns::turned_push))]
-fn row_named(
-    level: u64,
-    word: LetWord,
-    place: Pos,
-    want: Want,
-    rows: Rows,
-    pos: Pos,
-    name: Sym,
-    stack: &mut Vec<Frame>,
-) -> Result<Next, AllocError>
-    ensures { IfOk result (λ n. next_of n (turned [] stack.new.items) ≡ settle (row_name word place (want_of want) (rows_back no_bindings rows) (at pos (a_word plain name))) level (stack_of a_phrase (turned [] stack.old.items))) }
-{
-    if repeats(word, name, &rows) {
-        return Ok(refuse(level));
-    }
-    stack.push(Frame::Phrase(PhraseFrame::Row(RowFrame::RowPair(word, place, want, rows, name))))?;
-    Ok(bound_to(level, word, want))
-}
-
 /// The name of a binding in parentheses.
+#[tactic(auto, using(ath_automaton::proofs::Turns::turned_push))]
 pub fn row_name(
     level: u64,
     word: LetWord,
@@ -148,8 +128,13 @@ pub fn row_name(
     match token {
         Lexeme::Word(class, name) => match class {
             WordClass::Plain => {
-                let next = row_named(level, word, place, want, rows, pos, *name, stack)?;
-                Ok(next)
+                if repeats(word, *name, &rows) {
+                    return Ok(refuse(level));
+                }
+                stack.push(Frame::Phrase(PhraseFrame::Row(RowFrame::RowPair(
+                    word, place, want, rows, *name,
+                ))))?;
+                Ok(bound_to(level, word, want))
             }
             _ => Ok(refuse(level)),
         },
@@ -218,19 +203,6 @@ pub fn row_pairs(
     }
 }
 
-/// The name of a binding in braces, that is no keyword.
-fn named(level: u64, word: LetWord, place: Pos, want: Want, rows: Rows, pos: Pos, name: Sym) -> Next
-    ensures { (fs : List Framed) → next_of result fs ≡ settle (rows_rule word place (want_of want) (rows_back no_bindings rows) (at pos (a_word plain name))) level (stack_of a_phrase fs) }
-{
-    if repeats(word, name, &rows) {
-        return refuse(level);
-    }
-    wait(
-        level,
-        PhraseState::RowBecomes(word, place, want, rows, name),
-    )
-}
-
 /// The name of a binding in braces.
 pub fn rows(
     level: u64,
@@ -245,7 +217,15 @@ pub fn rows(
 {
     match token {
         Lexeme::Word(class, name) => match class {
-            WordClass::Plain => named(level, word, place, want, rows, pos, *name),
+            WordClass::Plain => {
+                if repeats(word, *name, &rows) {
+                    return refuse(level);
+                }
+                wait(
+                    level,
+                    PhraseState::RowBecomes(word, place, want, rows, *name),
+                )
+            }
             _ => refuse(level),
         },
         _ => refuse(level),
@@ -253,7 +233,7 @@ pub fn rows(
 }
 
 /// The `:=` of a binding in braces.
-#[tactic(auto, using(ath_automaton::proofs::Turns::turned_push))]
+#[tactic(auto, using(crate::proofs::RowSteps::becomes_next))]
 pub fn row_becomes(
     level: u64,
     word: LetWord,

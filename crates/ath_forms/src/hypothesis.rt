@@ -94,7 +94,6 @@ pub fn hypothesis_named(
 }
 
 /// What waits for the deduction, where the name at this place is the sentence itself.
-#[tactic(auto, using(crate::proofs::Sentences::body_next))]
 pub fn hypothesis_body(
     level: u64,
     word: HypothesisWord,

@@ -233,7 +233,6 @@ pub fn rows(
 }
 
 /// The `:=` of a binding in braces.
-#[tactic(auto, using(crate::proofs::RowSteps::becomes_next))]
 pub fn row_becomes(
     level: u64,
     word: LetWord,

@@ -3,3 +3,4 @@ pub mod Names
 pub mod Picks
 pub mod RowSteps
 pub mod Sentences
+pub mod Ways

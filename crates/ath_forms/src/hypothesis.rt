@@ -1,7 +1,9 @@
 // The tokens of forms with a sentence.
 
-ghost use Rattle.std.specs.Prelude.{◌≡◌, ◌<◌, ◌^◌, false, IfOk, Some, None, []};
+ghost use Rattle.std.specs.Prelude.{◌≡◌, ◌<◌, ◌^◌, false, IfOk, MatchOption, Some, None, []};
 ghost use Rattle.ath_syntax.specs.Tree.{name_at};
+ghost use Rattle.ath_grammar.specs.declared.lexeme.Lexeme.TheVariants.{Word as a_word};
+ghost use Rattle.ath_grammar.specs.declared.lexeme.WordClass.TheVariants.{Plain as plain};
 ghost use Rattle.ath_grammar.specs.Kinds.{only as only_kind};
 ghost use Rattle.ath_grammar.specs.Tokens.{at, is_name};
 ghost use Rattle.ath_grammar.specs.Rules.{a_phrase, goto, push, phrase_part};
@@ -13,14 +15,26 @@ ghost use Rattle.ath_automaton.specs.Configs.{stack_of, next_of, moved};
 
 use crate::answer::{free, wait};
 use crate::phrase::phrase;
-use crate::pick::name_of;
 use ath_automaton::frame::{PhraseFrame, SentenceFrame};
 use ath_automaton::state::PhraseState;
 use ath_automaton::{Frame, Move, Next, PhraseTree, Want};
-use ath_grammar::{HypothesisWord, Lexeme};
+use ath_grammar::{HypothesisWord, Lexeme, WordClass};
 use ath_sorts::Sym;
 use ath_syntax::Pos;
 use std::alloc::{AllocError, Global};
+
+/// The name that a token is, where it can be bound.
+fn name_of(token: &Lexeme) -> Option<Sym>
+    ensures { MatchOption result (is_name token.now ≡ false) (λ n. token.now ≡ a_word plain n) }
+{
+    match token {
+        Lexeme::Word(class, name) => match class {
+            WordClass::Plain => Some(*name),
+            _ => None,
+        },
+        _ => None,
+    }
+}
 
 /// The first token of a sentence that isn't named.
 #[tactic(auto, using(crate::proofs::Sentences::sentence_next))]

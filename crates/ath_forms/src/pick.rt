@@ -1,8 +1,7 @@
 // The tokens of `pick-any` and `pick-witness`.
 
-ghost use Rattle.std.specs.Prelude.{◌≡◌, false, IfOk, MatchOption, List, [], ◌∷◌, Some, None};
-ghost use Rattle.ath_grammar.specs.declared.lexeme.Lexeme.TheVariants.{Form as a_form, Word as a_word};
-ghost use Rattle.ath_grammar.specs.declared.lexeme.WordClass.TheVariants.{Plain as plain};
+ghost use Rattle.std.specs.Prelude.{◌≡◌, IfOk, List, [], ◌∷◌, Some, None};
+ghost use Rattle.ath_grammar.specs.declared.lexeme.Lexeme.TheVariants.{Form as a_form};
 ghost use Rattle.ath_grammar.specs.Tokens.{at, begins_phrase, is_colon, is_name};
 ghost use Rattle.ath_grammar.specs.Rules.{a_phrase, goto, peek, push, sort_part};
 ghost use Rattle.ath_grammar.specs.PhraseRules.{after_sorted, binders_rule, pick_body, pick_last, witness_name};
@@ -21,16 +20,16 @@ use ath_syntax::Pos;
 use sqlite_items::Boxed;
 use std::alloc::{AllocError, Global};
 
-/// The name that a token is, where it can be bound.
-pub fn name_of(token: &Lexeme) -> Option<Sym>
-    ensures { MatchOption result (is_name token.now ≡ false) (λ n. token.now ≡ a_word plain n) }
+/// Whether a token is a name that can be bound.
+pub fn is_name(token: &Lexeme) -> bool
+    ensures { result ≡ is_name token.now }
 {
     match token {
-        Lexeme::Word(class, name) => match class {
-            WordClass::Plain => Some(*name),
-            _ => None,
+        Lexeme::Word(class, _) => match class {
+            WordClass::Plain => true,
+            _ => false,
         },
-        _ => None,
+        _ => false,
     }
 }
 

@@ -1,3 +1,12 @@
+pub mod Attempts
+pub mod CheckLaws
+pub mod ClauseLaws
 pub mod FormLaws
 pub mod InsideLaws
 pub mod ListLaws
+pub mod Names
+pub mod Picks
+pub mod RowSteps
+pub mod Sentences
+pub mod StateLaws
+pub mod Ways

@@ -2,6 +2,14 @@
 #![tactic(auto)]
 
 pub mod answer;
+pub mod attempt;
+pub mod branch;
+pub mod clause;
+pub mod clauses;
+pub mod closure;
+pub mod hypothesis;
 pub mod inside;
 pub mod list;
 pub mod phrase;
+pub mod pick;
+pub mod row;

@@ -1,15 +1,14 @@
 -- A clause of a `check` begins with what its condition begins with, unless that is `else`.
 use Rattle.std.proofs.Common.{◌≡◌, ℕ, Bool, false, List, [], ◌∷◌, ◌++◌, refl, sym, ap, ◌∙◌}
 use Rattle.ath_syntax.specs.declared.place.Pos.{Pos}
-use Rattle.ath_syntax.specs.Tree.{no_branches, more_branches, is_deduction}
+use Rattle.ath_syntax.specs.Tree.{no_branches}
 use Rattle.ath_grammar.specs.declared.lexeme.Lexeme.{Lexeme}
 use Rattle.ath_grammar.specs.declared.lexeme.Lexeme.TheVariants.{Else}
 use Rattle.ath_grammar.specs.Kinds as grammar
 use Rattle.ath_grammar.specs.Tokens.{at}
-use Rattle.ath_grammar.specs.Rules.{a_phrase, token, goto, push, phrase_part}
-use Rattle.ath_grammar.specs.SmallRules.{arrow_mark, expect}
-use Rattle.ath_grammar.specs.PhraseRules.{phrase_rule, branch_close, branch_more, branch_inside_rule, branch_rows_rule}
-use Rattle.ath_grammar.specs.Machine.{Stack, frame, settle}
+use Rattle.ath_grammar.specs.Rules.{a_phrase}
+use Rattle.ath_grammar.specs.PhraseRules.{phrase_rule, branch_inside_rule, branch_rows_rule}
+use Rattle.ath_grammar.specs.Machine.{settle}
 use Rattle.ath_automaton.specs.declared.frame.Want.{Want}
 use Rattle.ath_automaton.specs.declared.frame.BranchFrame.TheVariants.{BranchCondition, RowCondition}
 use Rattle.ath_automaton.specs.declared.frame.PhraseFrame.TheVariants as x
@@ -18,7 +17,7 @@ use Rattle.ath_automaton.specs.declared.frame.Frame.TheVariants as f
 use Rattle.ath_automaton.specs.declared.state.Move.{Move}
 use Rattle.ath_automaton.specs.declared.tree.PhraseTree.{PhraseTree}
 use Rattle.ath_automaton.specs.Trees.{turned, branches_back}
-use Rattle.ath_automaton.specs.Configs.{stack_of, moved, want_of, branch_stack}
+use Rattle.ath_automaton.specs.Configs.{stack_of, moved, want_of}
 use Rattle.ath_automaton.proofs.Turns.{turned_push}
 
 module _ (p : Pos) (later : Bool) (w : Want) (read : List (PhraseTree × PhraseTree)) (q : Pos) where

@@ -1,5 +1,7 @@
 pub mod BranchLaws
 pub mod ClauseLaws
+pub mod NameLaws
+pub mod PatternLaws
 pub mod RowLaws
 pub mod Rows
 pub mod SmallLaws

@@ -3,8 +3,11 @@
 
 pub mod frame;
 pub mod kind;
+pub mod names;
+mod next;
 pub mod resume;
 pub mod resume_phrase;
+pub mod resume_small;
 pub mod small;
 pub mod state;
 pub mod tree;

@@ -1,9 +1,10 @@
 // What waits for a sort, a pattern, names, a header or a constructor goes on with one.
 
-ghost use Rattle.std.specs.Prelude.{◌≡◌, IfOk, List, [], ◌∷◌};
+ghost use Rattle.std.specs.Prelude.{◌≡◌, false, IfOk, List, []};
 ghost use Rattle.ath_grammar.specs.Machine.{deliver};
 ghost use Rattle.ath_grammar.specs.Phrases.{body_deduces};
 ghost use Rattle.ath_automaton.specs.declared.frame.Frame.{Frame as Framed};
+ghost use Rattle.ath_automaton.specs.Calm.{is_wait};
 ghost use Rattle.ath_automaton.specs.Trees.{turned, pattern_of};
 ghost use Rattle.ath_automaton.specs.Configs.{stack_of, next_of, sort_stack, pattern_stack, names_stack, header_stack, constructor_stack};
 
@@ -72,7 +73,8 @@ pub fn resume_pattern(
     pattern: PatternTree,
     stack: &mut Vec<Frame>,
 ) -> Result<Next, AllocError>
-    ensures { IfOk result (λ n. next_of n (turned [] stack.new.items) ≡ deliver (pattern_stack frame (λ k. stack_of k (turned [] stack.old.items))) (pattern_of pattern) level) }
+    ensures leads { IfOk result (λ n. next_of n (turned [] stack.new.items) ≡ deliver (pattern_stack frame (λ k. stack_of k (turned [] stack.old.items))) (pattern_of pattern) level) }
+    ensures rests { IfOk result (λ n. is_wait n.turn ≡ false → stack.new.items ≡ stack.old.items) }
 {
     match frame {
         PatternFrame::Item(closer, read) => {
@@ -123,7 +125,8 @@ pub fn resume_names(
     names: Items<Sym>,
     stack: &mut Vec<Frame>,
 ) -> Result<Next, AllocError>
-    ensures { IfOk result (λ n. next_of n (turned [] stack.new.items) ≡ deliver (names_stack frame (λ k. stack_of k (turned [] stack.old.items))) names level) }
+    ensures leads { IfOk result (λ n. next_of n (turned [] stack.new.items) ≡ deliver (names_stack frame (λ k. stack_of k (turned [] stack.old.items))) names level) }
+    ensures rests { IfOk result (λ n. is_wait n.turn ≡ false → stack.new.items ≡ stack.old.items) }
 {
     match frame {
         NamesFrame::Closure(word, pos) => {
@@ -166,7 +169,8 @@ pub fn resume_header(
     vars: Items<Sym>,
     stack: &mut Vec<Frame>,
 ) -> Result<Next, AllocError>
-    ensures { IfOk result (λ n. next_of n (turned [] stack.new.items) ≡ deliver (header_stack frame (λ k. stack_of k (turned [] stack.old.items))) (name, vars) level) }
+    ensures leads { IfOk result (λ n. next_of n (turned [] stack.new.items) ≡ deliver (header_stack frame (λ k. stack_of k (turned [] stack.old.items))) (name, vars) level) }
+    ensures rests { IfOk result (λ n. is_wait n.turn ≡ false → stack.new.items ≡ stack.old.items) }
 {
     match frame {
         HeaderFrame::Domain(own, pos) => Ok(finish(

@@ -31,6 +31,12 @@ abbrev pub is_wait : Turn → Bool
 is_wait (t.Wait w) = true
 is_wait _ = false
 
+-- whether a turn is no value for what waits
+abbrev pub is_settled : Turn → Bool
+is_settled t.Refuse = true
+is_settled (t.Wait w) = true
+is_settled _ = false
+
 -- whether a turn ends in no state that lingers, whatever waits
 abbrev pub is_calm : Turn → Bool
 is_calm t.Refuse = true

@@ -1,6 +1,7 @@
 //! A reader of one token at a time, that builds trees.
 #![tactic(auto)]
 
+pub mod deliver;
 pub mod frame;
 pub mod kind;
 pub mod names;

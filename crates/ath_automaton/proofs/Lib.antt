@@ -1,5 +1,8 @@
 pub mod BranchLaws
 pub mod ClauseLaws
+pub mod DeliverLaws
+pub mod NameLaws
+pub mod PatternLaws
 pub mod RowLaws
 pub mod Rows
 pub mod SmallLaws

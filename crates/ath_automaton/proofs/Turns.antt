@@ -30,7 +30,7 @@ pub patterns_push : (d : Patterns) (xs : List PatternTree) (x : PatternTree) →
 patterns_push d [] x = refl
 patterns_push d (y ∷ xs) x = patterns_push (more_patterns (pattern_of y) d) xs x
 
-back_put : {A : Type 0} (ys xs : List A) → put (turned ys xs) [] ≡ put ys xs
+pub back_put : {A : Type 0} (ys xs : List A) → put (turned ys xs) [] ≡ put ys xs
 back_put ys [] = refl
 back_put ys (x ∷ xs) = back_put (x ∷ ys) xs
 

@@ -1,2 +1,4 @@
+pub mod Calm
 pub mod Configs
+pub mod Landings
 pub mod Trees

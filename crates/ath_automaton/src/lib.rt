@@ -1,10 +1,14 @@
 //! A reader of one token at a time, that builds trees.
 #![tactic(auto)]
 
+pub mod deliver;
 pub mod frame;
 pub mod kind;
+pub mod names;
+mod next;
 pub mod resume;
 pub mod resume_phrase;
+pub mod resume_small;
 pub mod small;
 pub mod state;
 pub mod tree;

@@ -1,10 +1,11 @@
 // What waits goes on with a value.
 
-ghost use Rattle.std.specs.Prelude.{◌≡◌, ◌<◌, ◌^◌, IfOk, List, [], map};
+ghost use Rattle.std.specs.Prelude.{◌≡◌, ◌<◌, ◌^◌, false, IfOk, List, [], map, true};
 ghost use Rattle.ath_grammar.specs.Machine.{deliver, settle};
 ghost use Rattle.ath_grammar.specs.Rules.{a_directive};
 ghost use Rattle.ath_grammar.specs.DirectiveRules.{finish, declared_as};
 ghost use Rattle.ath_automaton.specs.declared.frame.Frame.{Frame as Framed};
+ghost use Rattle.ath_automaton.specs.Calm.{is_calm, is_wait};
 ghost use Rattle.ath_automaton.specs.Trees.{turned, back, phrase_of, phrases_of, pattern_of, patterns_of, directive_of};
 ghost use Rattle.ath_automaton.specs.Configs.{stack_of, next_of, phrases_stack, sorts_stack, patterns_stack};
 
@@ -67,7 +68,8 @@ pub fn resume_patterns(level: u64, frame: PatternsFrame, read: Items<PatternTree
 
 /// A directive that is read, but for the bracket of its own pair.
 pub fn finish(level: u64, own: bool, tree: DirectiveTree) -> Next
-    ensures { (fs : List Framed) → next_of result fs ≡ settle (finish own (directive_of tree)) level (stack_of a_directive fs) }
+    ensures leads { (fs : List Framed) → next_of result fs ≡ settle (finish own (directive_of tree)) level (stack_of a_directive fs) }
+    ensures calm { is_calm result.turn ≡ true }
 {
     if own {
         Next {
@@ -114,7 +116,8 @@ pub fn resume_sorts(
     read: Items<SortText>,
     stack: &mut Vec<Frame>,
 ) -> Result<Next, AllocError>
-    ensures { IfOk result (λ n. next_of n (turned [] stack.new.items) ≡ deliver (sorts_stack frame (λ k. stack_of k (turned [] stack.old.items))) read level) }
+    ensures leads { IfOk result (λ n. next_of n (turned [] stack.new.items) ≡ deliver (sorts_stack frame (λ k. stack_of k (turned [] stack.old.items))) read level) }
+    ensures rests { IfOk result (λ n. is_wait n.turn ≡ false → stack.new.items ≡ stack.old.items) }
 {
     match frame {
         SortsFrame::Con(name) => Ok(Next {

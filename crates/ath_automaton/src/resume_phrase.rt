@@ -1,9 +1,10 @@
 // What waits for a phrase goes on with one.
 
-ghost use Rattle.std.specs.Prelude.{◌≡◌, IfOk, List, [], ◌∷◌};
+ghost use Rattle.std.specs.Prelude.{◌≡◌, false, IfOk, List, [], ◌∷◌, true};
 ghost use Rattle.ath_grammar.specs.Phrases.{after_row};
 ghost use Rattle.ath_automaton.specs.declared.frame.Frame.{Frame as Framed};
 ghost use Rattle.ath_grammar.specs.Machine.{deliver};
+ghost use Rattle.ath_automaton.specs.Calm.{is_calm, is_wait};
 ghost use Rattle.ath_automaton.specs.Trees.{turned, phrase_of};
 ghost use Rattle.ath_automaton.specs.Configs.{stack_of, next_of, want_of, pair_stack, item_stack, first_stack, row_stack, sentence_stack, whole_stack, clause_stack, branch_stack, phrase_stack};
 
@@ -64,7 +65,9 @@ fn resume_pair(
     tree: PhraseTree,
     stack: &mut Vec<Frame>,
 ) -> Result<Next, AllocError>
-    ensures { IfOk result (λ n. next_of n (turned [] stack.new.items) ≡ deliver (pair_stack frame (λ k. stack_of k (turned [] stack.old.items))) (phrase_of tree) level) }
+    ensures leads { IfOk result (λ n. next_of n (turned [] stack.new.items) ≡ deliver (pair_stack frame (λ k. stack_of k (turned [] stack.old.items))) (phrase_of tree) level) }
+    ensures calm { IfOk result (λ n. is_calm n.turn ≡ true) }
+    ensures rests { IfOk result (λ n. is_wait n.turn ≡ false → stack.new.items ≡ stack.old.items) }
 {
     match frame {
         PairFrame::OwnPair => Ok(wait(level, PhraseState::OwnClose(tree))),
@@ -85,7 +88,9 @@ fn resume_item(
     tree: PhraseTree,
     stack: &mut Vec<Frame>,
 ) -> Result<Next, AllocError>
-    ensures { IfOk result (λ n. next_of n (turned [] stack.new.items) ≡ deliver (item_stack frame (λ k. stack_of k (turned [] stack.old.items))) (phrase_of tree) level) }
+    ensures leads { IfOk result (λ n. next_of n (turned [] stack.new.items) ≡ deliver (item_stack frame (λ k. stack_of k (turned [] stack.old.items))) (phrase_of tree) level) }
+    ensures calm { IfOk result (λ n. is_calm n.turn ≡ true) }
+    ensures rests { IfOk result (λ n. is_wait n.turn ≡ false → stack.new.items ≡ stack.old.items) }
 {
     match frame {
         ItemFrame::ApplyPart(pos, head) => {
@@ -125,7 +130,9 @@ fn resume_first(
     tree: PhraseTree,
     stack: &mut Vec<Frame>,
 ) -> Result<Next, AllocError>
-    ensures { IfOk result (λ n. next_of n (turned [] stack.new.items) ≡ deliver (first_stack frame (λ k. stack_of k (turned [] stack.old.items))) (phrase_of tree) level) }
+    ensures leads { IfOk result (λ n. next_of n (turned [] stack.new.items) ≡ deliver (first_stack frame (λ k. stack_of k (turned [] stack.old.items))) (phrase_of tree) level) }
+    ensures calm { IfOk result (λ n. is_calm n.turn ≡ true) }
+    ensures rests { IfOk result (λ n. is_wait n.turn ≡ false → stack.new.items ≡ stack.old.items) }
 {
     match frame {
         FirstFrame::SeqFirst(pos) => {
@@ -182,7 +189,8 @@ fn resume_row(
     frame: RowFrame,
     tree: PhraseTree,
 ) -> Result<Next, AllocError>
-    ensures { IfOk result (λ n. (fs : List Framed) → next_of n fs ≡ deliver (row_stack frame (λ k. stack_of k fs)) (phrase_of tree) level) }
+    ensures leads { IfOk result (λ n. (fs : List Framed) → next_of n fs ≡ deliver (row_stack frame (λ k. stack_of k fs)) (phrase_of tree) level) }
+    ensures calm { IfOk result (λ n. is_calm n.turn ≡ true) }
 {
     match frame {
         RowFrame::ClosureBody(word, pos, names) => {
@@ -233,7 +241,9 @@ fn resume_sentence(
     tree: PhraseTree,
     stack: &mut Vec<Frame>,
 ) -> Result<Next, AllocError>
-    ensures { IfOk result (λ n. next_of n (turned [] stack.new.items) ≡ deliver (sentence_stack frame (λ k. stack_of k (turned [] stack.old.items))) (phrase_of tree) level) }
+    ensures leads { IfOk result (λ n. next_of n (turned [] stack.new.items) ≡ deliver (sentence_stack frame (λ k. stack_of k (turned [] stack.old.items))) (phrase_of tree) level) }
+    ensures calm { IfOk result (λ n. is_calm n.turn ≡ true) }
+    ensures rests { IfOk result (λ n. is_wait n.turn ≡ false → stack.new.items ≡ stack.old.items) }
 {
     match frame {
         SentenceFrame::Sentence(word, pos, name) => {
@@ -270,7 +280,8 @@ fn resume_sentence(
 
 /// A phrase for what waits for it. The phrase of a directive.
 fn resume_whole(level: u64, frame: WholeFrame, tree: PhraseTree) -> Next
-    ensures { (fs : List Framed) → next_of result fs ≡ deliver (whole_stack frame (λ k. stack_of k fs)) (phrase_of tree) level }
+    ensures leads { (fs : List Framed) → next_of result fs ≡ deliver (whole_stack frame (λ k. stack_of k fs)) (phrase_of tree) level }
+    ensures calm { is_calm result.turn ≡ true }
 {
     match frame {
         WholeFrame::Said(pos) => Next {
@@ -309,7 +320,8 @@ fn resume_whole(level: u64, frame: WholeFrame, tree: PhraseTree) -> Next
 
 /// A phrase for what waits for it. A phrase of a form with clauses.
 fn resume_clause(level: u64, frame: ClauseFrame, tree: PhraseTree) -> Result<Next, AllocError>
-    ensures { IfOk result (λ n. (fs : List Framed) → next_of n fs ≡ deliver (clause_stack frame (λ k. stack_of k fs)) (phrase_of tree) level) }
+    ensures leads { IfOk result (λ n. (fs : List Framed) → next_of n fs ≡ deliver (clause_stack frame (λ k. stack_of k fs)) (phrase_of tree) level) }
+    ensures calm { IfOk result (λ n. is_calm n.turn ≡ true) }
 {
     match frame {
         ClauseFrame::Scrutinee(word, pos, want) => Ok(clause(
@@ -350,7 +362,9 @@ fn resume_branch(
     tree: PhraseTree,
     stack: &mut Vec<Frame>,
 ) -> Result<Next, AllocError>
-    ensures { IfOk result (λ n. next_of n (turned [] stack.new.items) ≡ deliver (branch_stack frame (λ k. stack_of k (turned [] stack.old.items))) (phrase_of tree) level) }
+    ensures leads { IfOk result (λ n. next_of n (turned [] stack.new.items) ≡ deliver (branch_stack frame (λ k. stack_of k (turned [] stack.old.items))) (phrase_of tree) level) }
+    ensures calm { IfOk result (λ n. is_calm n.turn ≡ true) }
+    ensures rests { IfOk result (λ n. is_wait n.turn ≡ false → stack.new.items ≡ stack.old.items) }
 {
     match frame {
         BranchFrame::BranchCondition(pos, want, branches) => {
@@ -406,7 +420,9 @@ pub fn resume_phrase(
     tree: PhraseTree,
     stack: &mut Vec<Frame>,
 ) -> Result<Next, AllocError>
-    ensures { IfOk result (λ n. next_of n (turned [] stack.new.items) ≡ deliver (phrase_stack frame (λ k. stack_of k (turned [] stack.old.items))) (phrase_of tree) level) }
+    ensures leads { IfOk result (λ n. next_of n (turned [] stack.new.items) ≡ deliver (phrase_stack frame (λ k. stack_of k (turned [] stack.old.items))) (phrase_of tree) level) }
+    ensures calm { IfOk result (λ n. is_calm n.turn ≡ true) }
+    ensures rests { IfOk result (λ n. is_wait n.turn ≡ false → stack.new.items ≡ stack.old.items) }
 {
     match frame {
         PhraseFrame::Pair(frame) => resume_pair(alloc, level, frame, tree, stack),

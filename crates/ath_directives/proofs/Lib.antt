@@ -1,0 +1,4 @@
+pub mod BeginningLaws
+pub mod DatatypeLaws
+pub mod DeclareLaws
+pub mod DefineLaws

@@ -1,5 +1,5 @@
 -- The first token of an assertion is its name, or the first of its sentence.
-use Rattle.std.proofs.Common.{◌≡◌, ℕ, Bool, true, false, Some, None, refl, sym, ap, subst, ◌∙◌}
+use Rattle.std.proofs.Common.{◌≡◌, ℕ, List, [], ◌∷◌, ◌++◌, Bool, true, false, Some, None, refl, sym, ap, subst, ◌∙◌}
 use Rattle.ath_sorts.specs.declared.sorts.Sym.{Sym}
 use Rattle.ath_syntax.specs.declared.place.Pos.{Pos}
 use Rattle.ath_syntax.specs.Tree.{Phrase, name_at}
@@ -9,18 +9,23 @@ use Rattle.ath_grammar.specs.declared.lexeme.Lexeme.{Lexeme}
 use Rattle.ath_grammar.specs.declared.lexeme.Lexeme.TheVariants.{Word, Becomes}
 use Rattle.ath_grammar.specs.Kinds.{only}
 use Rattle.ath_grammar.specs.Tokens.{at}
-use Rattle.ath_grammar.specs.Rules.{a_directive, push, goto, phrase_part}
+use Rattle.ath_grammar.specs.Rules.{a_phrase, a_directive, push, goto, phrase_part}
 use Rattle.ath_grammar.specs.PhraseRules.{phrase_rule}
 use Rattle.ath_grammar.specs.DirectiveRules.{asserted, assert_rule}
 use Rattle.ath_grammar.specs.Machine.{Stack, Outcome, settle, step}
 use Rattle.ath_grammar.specs.SmallRules.{is_mark, becomes_mark}
+use Rattle.ath_automaton.specs.declared.frame.WholeFrame.TheVariants.{Asserted}
+use Rattle.ath_automaton.specs.declared.frame.PhraseFrame.TheVariants.{Whole}
+use Rattle.ath_automaton.specs.declared.frame.Frame.{Frame}
+use Rattle.ath_automaton.specs.declared.frame.Frame.TheVariants as f
 use Rattle.ath_automaton.specs.declared.state.DirectiveState.TheVariants.{AssertName}
 use Rattle.ath_automaton.specs.declared.tree.PhraseTree.{Name}
 use Rattle.ath_automaton.specs.declared.tree.PhraseTree.TheOpen as one
 use Rattle.ath_automaton.specs.declared.tree.PhraseTree.TheVariants.{rolls-Name}
 use Rattle.ath_automaton.specs.declared.tree.PhraseTree.TheFolds.{fold-roll-PhraseTree}
-use Rattle.ath_automaton.specs.Trees.{phrase_of, phrase_step}
-use Rattle.ath_automaton.specs.Configs.{Below, directive_config}
+use Rattle.ath_automaton.specs.Trees.{turned, phrase_of, phrase_step}
+use Rattle.ath_automaton.specs.Configs.{Below, stack_of, directive_config}
+use Rattle.ath_automaton.proofs.Turns.{turned_push}
 
 assert_other : (p : Pos) (closed : Bool) (q : Pos) (t : Lexeme) (n : ℕ) (ks : Stack a_directive) → ((c : WordClass) (m : Sym) → t ≡ Word c m → ⊥) → settle (assert_rule p closed (at q t)) n ks ≡ settle (push (asserted false p closed None) (phrase_rule (only false) (at q t))) n ks
 assert_other p closed q (Word c m) n ks h = absurd (h c m refl)
@@ -29,6 +34,9 @@ assert_other p closed q t n ks h = refl
 assert_word : (p : Pos) (closed : Bool) (q : Pos) (c : WordClass) (m : Sym) (n : ℕ) (ks : Stack a_directive) → (c ≡ Plain → ⊥) → settle (assert_rule p closed (at q (Word c m))) n ks ≡ settle (push (asserted false p closed None) (phrase_rule (only false) (at q (Word c m)))) n ks
 assert_word p closed q Plain m n ks h = absurd (h refl)
 assert_word p closed q c m n ks h = refl
+
+pub sentence_next : (p : Pos) (closed : Bool) (q : Pos) (t : Lexeme) (n : ℕ) (old new : List Frame) (o : Outcome) → new ≡ old ++ f.Phrase (Whole (Asserted false p closed None)) ∷ [] → o ≡ settle (phrase_rule (only false) (at q t)) n (stack_of a_phrase (turned [] new)) → o ≡ settle (push (asserted false p closed None) (phrase_rule (only false) (at q t))) n (stack_of a_directive (turned [] old))
+sentence_next p closed q t n old new o e g = g ∙ ap (λ (fs : List Frame). settle (phrase_rule (only false) (at q t)) n (stack_of a_phrase fs)) (ap (turned []) e ∙ turned_push [] old (f.Phrase (Whole (Asserted false p closed None))))
 
 pub assert_other_next : (p : Pos) (closed : Bool) (q : Pos) (t : Lexeme) (n : ℕ) (ks : Stack a_directive) (o : Outcome) → ((c : WordClass) (m : Sym) → t ≡ Word c m → ⊥) → o ≡ settle (push (asserted false p closed None) (phrase_rule (only false) (at q t))) n ks → o ≡ settle (assert_rule p closed (at q t)) n ks
 assert_other_next p closed q t n ks o h g = g ∙ sym (assert_other p closed q t n ks h)

@@ -169,7 +169,7 @@ pub fn signature(
 }
 
 /// A token behind the bracket that may begin the parameters.
-#[tactic(auto, using(crate::proofs::DeclareLaws::signature_inside_next, ath_automaton::proofs::Turns::turned_push))]
+#[tactic(auto, using(ath_automaton::proofs::Turns::turned_push))]
 pub fn signature_inside(
     alloc: Global,
     level: u64,
@@ -200,7 +200,6 @@ pub fn signature_inside(
 }
 
 /// A sort that isn't in brackets.
-#[tactic(auto, using(ath_automaton::proofs::Turns::turned_push))]
 fn type_sort(
     alloc: Global,
     level: u64,

@@ -155,7 +155,6 @@ pub fn fun_becomes(
 }
 
 /// The first token of an assertion's sentence.
-#[tactic(auto, using(ath_automaton::proofs::Turns::turned_push))]
 fn sentence(
     alloc: Global,
     level: u64,

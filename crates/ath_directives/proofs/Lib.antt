@@ -2,3 +2,4 @@ pub mod BeginningLaws
 pub mod DatatypeLaws
 pub mod DeclareLaws
 pub mod DefineLaws
+pub mod PartLaws

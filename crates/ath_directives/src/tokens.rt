@@ -25,6 +25,7 @@ use ath_syntax::Pos;
 use std::alloc::{AllocError, Global};
 
 /// A token in a domain or a datatype.
+#[tactic(auto, using(crate::proofs::PartLaws::no_other))]
 fn datatype_token(
     alloc: Global,
     level: u64,
@@ -54,6 +55,7 @@ fn datatype_token(
 }
 
 /// A token of the sorts of a declaration, or in a domain or a datatype.
+#[tactic(auto, using(crate::proofs::PartLaws::still_datatype))]
 fn sorts_token(
     alloc: Global,
     level: u64,
@@ -87,6 +89,7 @@ fn sorts_token(
 }
 
 /// A token in a declaration, a domain or a datatype.
+#[tactic(auto, using(crate::proofs::PartLaws::still_sorts))]
 fn declaring_token(
     alloc: Global,
     level: u64,
@@ -118,6 +121,7 @@ fn declaring_token(
 }
 
 /// A token that is no phrase's first.
+#[tactic(auto, using(crate::proofs::PartLaws::still_declares))]
 fn plain_token(
     alloc: Global,
     level: u64,
@@ -149,6 +153,7 @@ fn plain_token(
 }
 
 /// A token of a directive, in a state that waits for one.
+#[tactic(auto, using(crate::proofs::PartLaws::not_first, crate::proofs::BeginningLaws::fits_next))]
 pub fn directive_token(
     alloc: Global,
     level: u64,

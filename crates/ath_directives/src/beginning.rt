@@ -132,8 +132,15 @@ pub fn inside(
         }
         _ => {
             stack.push(Frame::Phrase(PhraseFrame::Whole(WholeFrame::Said(start))))?;
-            let next =
-                ath_forms::inside::inside(alloc, level, start, Want::Any, pos, token, stack)?;
+            let next = ath_forms::inside::inside(
+                alloc,
+                level,
+                start,
+                Want::Any,
+                pos,
+                token,
+                stack,
+            )?;
             Ok(next)
         }
     }

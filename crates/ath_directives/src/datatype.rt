@@ -24,13 +24,7 @@ use sqlite_items::Items;
 use std::alloc::{AllocError, Global};
 
 /// The name of a domain or a datatype, or the bracket before it.
-pub fn header(
-    alloc: Global,
-    level: u64,
-    pos: Pos,
-    token: &Lexeme,
-    stack: &Vec<Frame>,
-) -> Next
+pub fn header(alloc: Global, level: u64, pos: Pos, token: &Lexeme, stack: &Vec<Frame>) -> Next
     requires { level < 2 ^ 32 }
     ensures { next_of result (turned [] stack.now.items) ≡ settle (header_rule (at pos token.now)) level (stack_of a_header (turned [] stack.now.items)) }
 {
@@ -83,13 +77,7 @@ pub fn header_var(
 }
 
 /// A constructor's name, or the bracket before it.
-pub fn constructor(
-    alloc: Global,
-    level: u64,
-    pos: Pos,
-    token: &Lexeme,
-    stack: &Vec<Frame>,
-) -> Next
+pub fn constructor(alloc: Global, level: u64, pos: Pos, token: &Lexeme, stack: &Vec<Frame>) -> Next
     requires { level < 2 ^ 32 }
     ensures { next_of result (turned [] stack.now.items) ≡ settle (constructor_rule (at pos token.now)) level (stack_of a_constructor (turned [] stack.now.items)) }
 {
@@ -121,10 +109,7 @@ pub fn constructor_name(
         Lexeme::Word(class, name) => match class {
             WordClass::Plain => {
                 stack.push(Frame::Sorts(SortsFrame::Constructor(*name)))?;
-                Ok(small(
-                    level,
-                    SmallState::Sorts(Closer::Round, Items::new(alloc)),
-                ))
+                Ok(small(level, SmallState::Sorts(Closer::Round, Items::new(alloc))))
             }
             _ => Ok(refuse(level)),
         },
@@ -143,9 +128,7 @@ fn next_constructor(
 ) -> Result<Next, AllocError>
     ensures { IfOk result (λ n. next_of n (turned [] stack.new.items) ≡ settle (alternative start (name, params) (back read)) level (stack_of a_directive (turned [] stack.old.items))) }
 {
-    stack.push(Frame::Constructor(ConstructorFrame::Bar(
-        start, name, params, read,
-    )))?;
+    stack.push(Frame::Constructor(ConstructorFrame::Bar(start, name, params, read)))?;
     Ok(wait(level, DirectiveState::Constructor))
 }
 
@@ -208,17 +191,9 @@ pub fn constructor_list(
     ensures { IfOk result (λ n. next_of n (turned [] stack.new.items) ≡ settle (constructor_list_rule start (name, params) (back read) (at pos token.now)) level (stack_of a_directive (turned [] stack.old.items))) }
 {
     if closes(Closer::Round, token) {
-        return Ok(datatype_read(
-            level.saturating_sub(1),
-            start,
-            name,
-            params,
-            read,
-        ));
+        return Ok(datatype_read(level.saturating_sub(1), start, name, params, read));
     }
-    stack.push(Frame::Constructor(ConstructorFrame::Item(
-        start, name, params, read,
-    )))?;
+    stack.push(Frame::Constructor(ConstructorFrame::Item(start, name, params, read)))?;
     let next = constructor(alloc, level, pos, token, stack);
     Ok(next)
 }
@@ -253,13 +228,7 @@ pub fn after_constructor(
 }
 
 /// The bracket that closes a directive.
-pub fn close(
-    level: u64,
-    read: DirectiveTree,
-    pos: Pos,
-    token: &Lexeme,
-    stack: &Vec<Frame>,
-) -> Next
+pub fn close(level: u64, read: DirectiveTree, pos: Pos, token: &Lexeme, stack: &Vec<Frame>) -> Next
     ensures { next_of result (turned [] stack.now.items) ≡ settle (marked close_mark (shallower (done (directive_of read))) (at pos token.now)) level (stack_of a_directive (turned [] stack.now.items)) }
 {
     match token {

@@ -214,13 +214,7 @@ fn type_sort(
     requires { level < 2 ^ 32 }
     ensures { IfOk result (λ n. next_of n (turned [] stack.new.items) ≡ settle (push (declared_as own start (back names) params []) (sort_rule (at pos token))) level (stack_of a_directive (turned [] stack.old.items))) }
 {
-    stack.push(Frame::Sort(SortFrame::Declared(
-        own,
-        start,
-        names,
-        params,
-        Items::new(alloc),
-    )))?;
+    stack.push(Frame::Sort(SortFrame::Declared(own, start, names, params, Items::new(alloc))))?;
     let next = sort(level, pos, token, stack);
     Ok(next)
 }
@@ -316,13 +310,8 @@ pub fn type_inside(
             if !is_path(*class) {
                 return Ok(refuse(level));
             }
-            stack.push(Frame::Sorts(SortsFrame::Declared(
-                own, start, names, params, *name,
-            )))?;
-            Ok(small(
-                level,
-                SmallState::Sorts(Closer::Round, Items::new(alloc)),
-            ))
+            stack.push(Frame::Sorts(SortsFrame::Declared(own, start, names, params, *name)))?;
+            Ok(small(level, SmallState::Sorts(Closer::Round, Items::new(alloc))))
         }
         _ => Ok(refuse(level)),
     }
@@ -355,9 +344,7 @@ pub fn type_to(
 {
     match token {
         Lexeme::To => {
-            stack.push(Frame::Sort(SortFrame::Declared(
-                false, start, names, params, args,
-            )))?;
+            stack.push(Frame::Sort(SortFrame::Declared(false, start, names, params, args)))?;
             Ok(small(level, SmallState::Sort))
         }
         _ => Ok(refuse(level)),

@@ -35,9 +35,7 @@ fn body(
 ) -> Result<Next, AllocError>
     ensures { IfOk result (λ n. next_of n (turned [] stack.new.items) ≡ settle (push (λ v. finish own (directive_at start (define_is name v))) (goto (phrase_part any))) level (stack_of a_directive (turned [] stack.old.items))) }
 {
-    stack.push(Frame::Phrase(PhraseFrame::Whole(WholeFrame::DefineBody(
-        own, start, name,
-    ))))?;
+    stack.push(Frame::Phrase(PhraseFrame::Whole(WholeFrame::DefineBody(own, start, name))))?;
     Ok(phrase(level, Want::Any))
 }
 

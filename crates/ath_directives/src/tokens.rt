@@ -132,7 +132,7 @@ fn plain_token(
 ) -> Result<Next, AllocError>
     requires in_range { level < 2 ^ 32 }
     requires not_first { begins state ≡ false }
-    requires taken { directive_lingers state ≡ false }
+    requires waits { directive_lingers state ≡ false }
     ensures { IfOk result (λ n. next_of n (turned [] stack.new.items) ≡ step (directive_config state level (λ k. stack_of k (turned [] stack.old.items))) (at pos token.now)) }
 {
     match state {
@@ -163,7 +163,7 @@ pub fn directive_token(
     stack: &mut Vec<Frame>,
 ) -> Result<Move, AllocError>
     requires in_range { level < 2 ^ 32 }
-    requires taken { directive_lingers state ≡ false }
+    requires waits { directive_lingers state ≡ false }
     ensures { IfOk result (λ m. moved m (turned [] stack.new.items) ≡ step (directive_config state level (λ k. stack_of k (turned [] stack.old.items))) (at pos token.now)) }
 {
     match state {

@@ -1,0 +1,5 @@
+pub mod BeginningLaws
+pub mod DatatypeLaws
+pub mod DeclareLaws
+pub mod DefineLaws
+pub mod PartLaws

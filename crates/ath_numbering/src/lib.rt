@@ -1,0 +1,2 @@
+//! Numbers for trees: nodes made of what is read.
+#![tactic(auto)]

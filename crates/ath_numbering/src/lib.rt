@@ -1,2 +1,6 @@
 //! Numbers for trees: nodes made of what is read.
 #![tactic(auto)]
+
+pub mod statement;
+
+pub use statement::number_directive;

@@ -1,0 +1,5 @@
+pub mod Ahead
+pub mod Automata
+pub mod Operators
+pub mod Reading
+pub mod Steps

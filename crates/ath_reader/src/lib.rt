@@ -1,0 +1,12 @@
+//! Directives of a text, one after another, in both spellings.
+#![tactic(auto)]
+
+mod automaton;
+mod operators;
+mod reader;
+
+pub use operators::OpTable;
+pub use reader::{Reader, SyntaxError, SyntaxKind};
+
+#[cfg(test)]
+mod tests;

@@ -25,7 +25,7 @@ token = record { known = λ wild k. k.1; count = omega arith }
 behind : {t : Placed} {n : ℕ} {ts r : List Placed} → Takes n ts r → Takes (1 + n) (t ∷ ts) r
 behind h = record { known = λ wild k. h.known wild k.1; count = omega (arith, h.count) }
 
-along : {m n : ℕ} {ts mid r : List Placed} → Takes m ts mid → Takes n mid r → Takes (m + n) ts r
+pub along : {m n : ℕ} {ts mid r : List Placed} → Takes m ts mid → Takes n mid r → Takes (m + n) ts r
 along h k = record { known = λ wild f. k.known wild (h.known wild f); count = omega (arith, h.count, k.count) }
 
 at_least : {m n : ℕ} {ts r : List Placed} → Takes n ts r → m ≤ n → Takes m ts r
@@ -42,7 +42,7 @@ closes_takes : {c : Closer} {ts r : List Placed} → Closes c ts r → Takes 1 t
 closes_takes closes_round = token
 closes_takes closes_square = token
 
-separates_takes : {s : Separator} {ts r : List Placed} → Separates s ts r → Takes 1 ts r
+pub separates_takes : {s : Separator} {ts r : List Placed} → Separates s ts r → Takes 1 ts r
 separates_takes separates_semicolon = token
 separates_takes separates_bar = token
 

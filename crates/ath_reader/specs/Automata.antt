@@ -16,11 +16,11 @@ standing_of a = elim a.standing [
   | Waits w ↦ config_of w a.level (λ k. stack_of k (turned [] a.stack.items))
 ]
 
--- where a token leads, with the automaton behind it
-abbrev pub outcome_of : Reply → Automaton → Outcome
-outcome_of reply.No a = no
-outcome_of (reply.On fits) a = on fits (standing_of a)
-outcome_of (reply.Over fits d) a = over fits (directive_of d)
+-- where a token leads
+abbrev pub outcome_of : Reply → Outcome
+outcome_of reply.No = no
+outcome_of (reply.On fits a) = on fits (standing_of a)
+outcome_of (reply.Over fits d) = over fits (directive_of d)
 
 abbrev pub ending_of : Option (Bool × DirectiveTree) → Ending
 ending_of None = unfinished

@@ -30,7 +30,7 @@ pub(crate) struct Automaton {
 #[derive(Drop)]
 pub(crate) enum Reply {
     No,
-    On(bool),
+    On(bool, Automaton),
     Over(bool, DirectiveTree),
 }
 
@@ -58,13 +58,13 @@ impl Automaton {
 
     /// Takes a token.
     pub(crate) fn step(
-        &mut self,
+        self,
         alloc: Global,
         pos: Pos,
         token: &Lexeme,
     ) -> Result<Reply, AllocError>
-        requires { level_of (standing_of self.old) ≤ 500 }
-        ensures { IfOk result (λ r. outcome_of r self.new ≡ step (standing_of self.old) (at pos token.now)) }
+        requires { level_of (standing_of self) ≤ 500 }
+        ensures { IfOk result (λ r. outcome_of r ≡ step (standing_of self) (at pos token.now)) }
     {
         Err(AllocError)
     }

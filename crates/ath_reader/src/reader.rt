@@ -6,7 +6,7 @@ ghost use Rattle.ath_grammar.specs.Tokens.{at};
 ghost use Rattle.ath_names.specs.Names.{Grows as NamesGrow, first_names};
 ghost use Rattle.ath_reader.specs.Automata.{standing_of};
 ghost use Rattle.ath_reader.specs.Reading.{Answers, reached};
-ghost use Rattle.ath_reader.specs.Steps.{Looks, Takes, Lasts, ReadsTree, NumbersTree};
+ghost use Rattle.ath_reader.specs.Steps.{Looks, Takes, Lasts, Turns, ReadsTree, NumbersTree, is_end};
 
 use crate::automaton::{Automaton, Reply};
 use crate::operators::OpTable;
@@ -128,7 +128,8 @@ pub(crate) enum Seen {
 }
 
 fn look(alloc: Global, tokens: &mut Tokens, names: &mut Names) -> Result<Seen, SyntaxError>
-    requires { tokens.old.refused ≡ None }
+    requires fresh { tokens.old.refused ≡ None }
+    requires within { tokens.old.at ≤ length tokens.old.text }
     ensures { Looks tokens.old names.old result tokens.new names.new }
 {
     match tokens.next(alloc, names) {
@@ -141,25 +142,32 @@ fn look(alloc: Global, tokens: &mut Tokens, names: &mut Names) -> Result<Seen, S
     }
 }
 
-/// Takes a token. Some where it stands behind a whole directive.
+/// A token that is taken, or stands behind a whole directive.
+#[derive(Drop)]
+pub(crate) enum Taken {
+    On(Automaton),
+    Whole(DirectiveTree),
+}
+
+
 fn take(
     alloc: Global,
-    automaton: &mut Automaton,
+    automaton: Automaton,
     pos: Pos,
     token: &Lexeme,
-) -> Result<Option<DirectiveTree>, SyntaxError>
-    requires { level_of (standing_of automaton.old) ≤ 500 }
-    ensures { Takes (standing_of automaton.old) (at pos token.now) result (standing_of automaton.new) }
+) -> Result<Taken, SyntaxError>
+    requires { level_of (standing_of automaton) ≤ 500 }
+    ensures { Takes (standing_of automaton) (at pos token.now) result }
 {
     let kind = match automaton.step(alloc, pos, token) {
         Err(_) => SyntaxKind::Memory,
-        Ok(Reply::Over(true, tree)) => return Ok(Some(tree)),
+        Ok(Reply::Over(true, tree)) => return Ok(Taken::Whole(tree)),
         Ok(Reply::Over(false, _)) => SyntaxKind::Unexpected,
         Ok(Reply::No) => SyntaxKind::Unexpected,
-        Ok(Reply::On(false)) => SyntaxKind::KindMix,
-        Ok(Reply::On(true)) => {
-            if automaton.level() <= MAX_LEVEL {
-                return Ok(None);
+        Ok(Reply::On(false, _)) => SyntaxKind::KindMix,
+        Ok(Reply::On(true, next)) => {
+            if next.level() <= MAX_LEVEL {
+                return Ok(Taken::On(next));
             }
             SyntaxKind::TooDeep
         }
@@ -168,11 +176,7 @@ fn take(
 }
 
 /// The directive that is whole where the tokens end, or this refusal.
-fn last(
-    alloc: Global,
-    automaton: Automaton,
-    refusal: SyntaxError,
-) -> Result<DirectiveTree, SyntaxError>
+fn last(alloc: Global, automaton: Automaton, refusal: SyntaxError) -> Result<Taken, SyntaxError>
     ensures { Lasts (standing_of automaton) refusal result }
 {
     match automaton.end(alloc) {
@@ -180,8 +184,48 @@ fn last(
             kind: SyntaxKind::Memory,
             pos: refusal.pos,
         }),
-        Ok(Some((true, tree))) => Ok(tree),
-        Ok(_) => Err(refusal),
+        Ok(Some((true, tree))) => Ok(Taken::Whole(tree)),
+        Ok(Some((false, _))) => Err(refusal),
+        Ok(None) => Err(refusal),
+    }
+}
+
+/// What becomes of what was read by what comes next.
+fn turn(
+    alloc: Global,
+    tokens: &Tokens,
+    automaton: Automaton,
+    seen: Seen,
+) -> Result<Taken, SyntaxError>
+    requires { level_of (standing_of automaton) ≤ 500 }
+    ensures { Turns tokens.now (standing_of automaton) seen result }
+{
+    match seen {
+        Seen::Token(lexeme, pos) => take(alloc, automaton, pos, &lexeme),
+        Seen::End => {
+            let refusal = SyntaxError {
+                kind: SyntaxKind::Unclosed,
+                pos: tokens.end(),
+            };
+            last(alloc, automaton, refusal)
+        }
+        Seen::Fault(error) => {
+            let refusal = SyntaxError {
+                kind: SyntaxKind::Lex(error.kind),
+                pos: error.pos,
+            };
+            last(alloc, automaton, refusal)
+        }
+    }
+}
+
+fn is_end(seen: &Seen) -> bool
+    ensures { result ≡ is_end seen.now }
+{
+    match seen {
+        Seen::Token(_, _) => false,
+        Seen::End => true,
+        Seen::Fault(_) => false,
     }
 }
 
@@ -191,39 +235,25 @@ fn read_tree(
     tokens: &mut Tokens,
     names: &mut Names,
 ) -> Result<Option<DirectiveTree>, SyntaxError>
-    requires fresh { tokens.old.refused ≡ None }
+    requires { tokens.old.refused ≡ None }
     ensures { ReadsTree tokens.old names.old result tokens.new names.new }
 {
     let mut automaton = Automaton::new(alloc);
     let mut begun = false;
     loop {
         let mark = tokens.mark();
-        let refusal = match look(alloc, tokens, names)? {
-            Seen::Token(lexeme, pos) => {
-                if let Some(tree) = take(alloc, &mut automaton, pos, &lexeme)? {
-                    tokens.back_to(mark);
-                    return Ok(Some(tree));
-                }
-                begun = true;
-                continue;
+        let seen = look(alloc, tokens, names)?;
+        if !begun && is_end(&seen) {
+            return Ok(None);
+        }
+        match turn(alloc, tokens, automaton, seen)? {
+            Taken::On(next) => automaton = next,
+            Taken::Whole(tree) => {
+                tokens.back_to(mark);
+                return Ok(Some(tree));
             }
-            Seen::End => {
-                if !begun {
-                    return Ok(None);
-                }
-                SyntaxError {
-                    kind: SyntaxKind::Unclosed,
-                    pos: tokens.end(),
-                }
-            }
-            Seen::Fault(error) => SyntaxError {
-                kind: SyntaxKind::Lex(error.kind),
-                pos: error.pos,
-            },
-        };
-        let tree = last(alloc, automaton, refusal)?;
-        tokens.back_to(mark);
-        return Ok(Some(tree));
+        }
+        begun = true;
     }
 }
 

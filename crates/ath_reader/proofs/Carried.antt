@@ -1,5 +1,5 @@
 -- What the tokens that are read so far make of the automaton, and what the next one says of the grammar.
-use Rattle.std.proofs.Common.{◌≡◌, ℕ, suc, ◌-◌, ◌<◌, ◌≤◌, List, [], ◌∷◌, ◌++◌, length, take, Bool, true, false, Option, Some, None, refl, sym, ap, ◌∙◌, subst, arith}
+use Rattle.std.proofs.Common.{◌≡◌, ℕ, zero, suc, ◌-◌, ◌<◌, ◌≤◌, List, [], ◌∷◌, ◌++◌, length, take, Bool, true, false, Option, Some, None, refl, sym, ap, ◌∙◌, subst, arith}
 use Rattle.ath_syntax.specs.Tree.{DirectiveTree}
 use Rattle.ath_grammar.specs.Kinds.{allowed}
 use Rattle.ath_grammar.specs.Tokens.{Placed}
@@ -23,13 +23,22 @@ depth_is : (ts : List Placed) (st : Config) → read_on true (Some beginning) ts
 depth_is ts st e = ap (λ (o : Option Config). elim o [ Some s ↦ level_of s | None ↦ 0 ]) e
 
 take_snoc : {A : Type 0} (P : List A → Type 0) (x : A) (ts : List A) → ((n : ℕ) → P (take n ts)) → P (ts ++ x ∷ []) → (n : ℕ) → P (take n (ts ++ x ∷ []))
-take_snoc P x [] f h 0 = f 0
+take_snoc P x [] f h zero = f zero
 take_snoc P x [] f h (suc n) = h
-take_snoc P x (t ∷ ts) f h 0 = f 0
+take_snoc P x (t ∷ ts) f h zero = f zero
 take_snoc P x (t ∷ ts) f h (suc n) = take_snoc (λ us. P (t ∷ us)) x ts (λ m. f (suc m)) h n
 
 pub shallow_snoc : (ts : List Placed) (t : Placed) → Shallow ts → depth (ts ++ t ∷ []) ≤ 500 → Shallow (ts ++ t ∷ [])
 shallow_snoc ts t f h = take_snoc (λ us. depth us ≤ 500) t ts f h
+
+none_left : {e d : DirectiveTree} {r : List Placed} → Whole e [] d r → length r ≤ 0
+none_left wholly = omega arith
+
+all_left : {e d : DirectiveTree} {ts r : List Placed} → Whole e ts d r → length r ≤ length ts
+all_left wholly = omega arith
+
+same_whole : {e d : DirectiveTree} {ts r : List Placed} → Whole e ts d r → e ≡ d
+same_whole wholly = refl
 
 module _ (a : Bool) where
   -- what is left over is no more than what is there
@@ -38,13 +47,13 @@ module _ (a : Bool) where
     where
       go : (o : Ending) → Finishes a o d r → length r ≤ 0
       go unfinished f = absurd f
-      go (finished b e) f = elim f.1 [ wholly ↦ omega arith ]
+      go (finished b e) f = none_left f.1
   shorter (t ∷ ts) d r st h = go (step st t) (shorter ts d r) (step_complete a (agrees a) t d r ts st h)
     where
       go : (o : Outcome) → ((s : Config) → Continues a s ts d r → length r ≤ length ts) → After a t o ts d r → length r ≤ suc (length ts)
       go no ih f = absurd f
       go (on b s) ih f = omega (arith, ih s f.1)
-      go (over b e) ih f = elim f.1 [ wholly ↦ omega arith ]
+      go (over b e) ih f = all_left f.1
 
   -- what is read of a directive goes on behind the tokens that are taken
   reads_on : (ts more : List Placed) (d : DirectiveTree) (r : List Placed) (o : Option Config) (st : Config) → HasState o (λ s. Continues a s (ts ++ more) d r) → read_on a o ts ≡ Some st → Continues a st more d r
@@ -73,13 +82,13 @@ Stops (over b d) = b ≡ false
 not_over : (t : Placed) (o : Outcome) (more : List Placed) (d : DirectiveTree) → Stops o → After true t o more d (t ∷ more) → ⊥
 not_over t no more d s h = h
 not_over t (on b st) more d s h = omega (arith, shorter true more d (t ∷ more) st h.1)
-not_over t (over true e) more d s h = absurd s
-not_over t (over false e) more d s h = absurd h.0
+not_over t (over true e) more d s h = cc
+not_over t (over false e) more d s (f, w) = cc
 
 same_end : (o : Ending) (d : DirectiveTree) → Finishes true o d [] → o ≡ finished true d
 same_end unfinished d h = absurd h
-same_end (finished true e) d h = elim h.1 [ wholly ↦ refl ]
-same_end (finished false e) d h = absurd h.0
+same_end (finished true e) d h = ap (finished true) (same_whole h.1)
+same_end (finished false e) d (f, w) = cc
 
 -- with and without kinds
 module _ (ts : List Placed) (st : Config) (e : read_on true (Some beginning) ts ≡ Some st) where

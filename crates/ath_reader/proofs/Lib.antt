@@ -1,2 +1,4 @@
 mod Carried
+mod KnownTokens
 mod Seen
+mod Turned

@@ -1,5 +1,5 @@
 -- What the tokens that are read so far carry, from turn to turn.
-use Rattle.std.proofs.Common.{◌≡◌, ℕ, ◌<◌, ◌≤◌, List, [], ◌∷◌, ◌++◌, length, Bool, true, false, Option, Some, None, Result, Ok, Err, ◌⊎◌, inl, inr, refl, sym, ap, ◌∙◌, subst, arith}
+use Rattle.std.proofs.Common.{◌≡◌, ℕ, zero, suc, take, ◌<◌, ◌≤◌, List, [], ◌∷◌, ◌++◌, length, Bool, true, false, Option, Some, None, Result, Ok, Err, ◌⊎◌, inl, inr, refl, sym, ap, ◌∙◌, subst, arith}
 use Rattle.ath_syntax.specs.Tree.{DirectiveTree}
 use Rattle.ath_grammar.specs.Tokens.{Placed, at}
 use Rattle.ath_grammar.specs.Machine.{Config, Outcome, no, on, over, step, level_of, finished, at_end, beginning, read_on}
@@ -21,6 +21,7 @@ use Rattle.ath_reader.specs.Ahead.{Ahead, a_token, the_end, a_fault, ahead, Read
 use Rattle.ath_reader.specs.Automata.{standing_of}
 use Rattle.ath_reader.specs.Reading.{Reading, depth, Shallow, Front, IsWhole, IsCut, place, Fails, Refuses}
 use Rattle.ath_reader.specs.Steps.{next_of, Looks, Takes, Rejects, Lasts, Turns, is_end, reading_of, ReadsTree}
+use Rattle.ath_reader.proofs.KnownTokens.{reads_grow}
 use Rattle.ath_reader.proofs.Carried.{reads_snoc, depth_is, shallow_snoc, over_whole, end_whole, fault_whole, end_cut, fault_cut, no_cut, on_cut, over_cut, read_next, not_loosely, mixed, deep}
 
 -- the tokens from old on as far as c are read, and lead to the state
@@ -42,12 +43,12 @@ begins_carried c names st e = record {
   shallow = λ n. first n;
   low = subst (λ (s : Config). level_of s ≤ 500) (sym e) (omega arith);
   same = refl;
-  some = λ b f. absurd b;
+  some = λ b f. cc;
   none = λ b. (refl, refl);
 }
   where
     first : (n : ℕ) → depth (take n []) ≤ 500
-    first 0 = omega arith
+    first zero = omega arith
     first (suc n) = omega arith
 
 snoc_some : (ts : List Placed) (t : Placed) → ts ++ t ∷ [] ≡ [] → ⊥
@@ -88,7 +89,7 @@ module _ (old : Cutting) (names : List (List ℕ)) (c : Cutting) (known : List (
         low = takes.1;
         same = looks.3 ∙ ap (λ (d : Cutting). record d { at = new.at }) carried.same;
         some = λ b f. snoc_some carried.tokens (at p l) f;
-        none = λ b. absurd b;
+        none = λ b. cc;
       }
   turned_on End new known' a looks lasts = absurd lasts
   turned_on (Fault e) new known' a looks lasts = absurd lasts
@@ -106,3 +107,14 @@ module _ (old : Cutting) (names : List (List ℕ)) (c : Cutting) (known : List (
        went_back new back (ap (λ (x : Cutting). x.text) looks.2 ∙ text_same) (ap (λ (x : Cutting). x.file) looks.2 ∙ file_same) r b)
   turned_whole (Fault e) new back known' d r (n, f, p, k, t, x) lasts b =
       (front (a_fault e.kind n) f, fault_whole carried.tokens st carried.leads e.kind n (directive_of d) lasts, k, went_back new back (t ∙ text_same) (x ∙ file_same) r b)
+
+  rejects : (t : Placed) (known' : List (List ℕ)) (to : ℕ) (o : Outcome) (kind : SyntaxKind) → step st t ≡ o → Rejects o kind → IsCut carried.tokens (a_token t known' to) × Fails (reading_of old) carried.tokens (a_token t known' to) kind (place t)
+  rejects t known' to no Unexpected s h = (no_cut carried.tokens st carried.leads t known' to s, not_loosely carried.tokens st carried.leads t no s refl, refl)
+  rejects t known' to (over false d) Unexpected s h = (over_cut carried.tokens st carried.leads t known' to d s, not_loosely carried.tokens st carried.leads t (over false d) s refl, refl)
+  rejects t known' to (on false new) KindMix s h = let m = mixed carried.tokens st carried.leads t new s in (on_cut carried.tokens st carried.leads t known' to false new s, m.0, m.1, refl)
+  rejects t known' to (on true new) TooDeep s h = let m = deep carried.tokens st carried.leads t new s h in (on_cut carried.tokens st carried.leads t known' to true new s, m.0, m.1, refl)
+  rejects t known' to o kind s h = absurd h
+
+  -- memory is wanted
+  pub turned_wants : (new : Cutting) (known' : List (List ℕ)) (e : SyntaxError) → Grows known known' → new.text ≡ old.text → new.file ≡ old.file → e.kind ≡ Memory → ReadsTree old names (Err e) new known'
+  turned_wants new known' e g t f m = (t, f, inl (m, Grows-trans (reads_grow old.file old.text names old.at carried.tokens known c.at carried.read) g))

@@ -5,12 +5,12 @@ use Rattle.std.specs.Prelude.{slice_index_or}
 use Rattle.std.specs.List.{AllByRecursion}
 use Rattle.ath_io.specs.Shelf.{Texts, front_of, IsFetched}
 use Rattle.ath_io.specs.Sink.{Held}
-use Rattle.ath_reader.specs.declared.token.Token.{Token}
-use Rattle.ath_reader.specs.declared.script.Directive.{Directive}
-use Rattle.ath_reader.specs.Script.{Deed, Step, step_of}
-use Rattle.ath_reader.specs.Words.{is_constant_name}
-use Rattle.ath_reader.specs.Grammar.{AreNames, names_end, names_more, AreDeclared, one_declared, some_declared, IsDeed, is_declare, is_assert, is_mp, AreSteps, steps_end, steps_more, declared_by, IsScript}
-use Rattle.ath_reader.proofs.Directives.{one_reading}
+use Rattle.ath_first_reader.specs.declared.token.Token.{Token}
+use Rattle.ath_first_reader.specs.declared.script.Directive.{Directive}
+use Rattle.ath_first_reader.specs.Script.{Deed, Step, step_of}
+use Rattle.ath_first_reader.specs.Words.{is_constant_name}
+use Rattle.ath_first_reader.specs.Grammar.{AreNames, names_end, names_more, AreDeclared, one_declared, some_declared, IsDeed, is_declare, is_assert, is_mp, AreSteps, steps_end, steps_more, declared_by, IsScript}
+use Rattle.ath_first_reader.proofs.Directives.{one_reading}
 use Rattle.ath_eval.specs.Stands.{AreShort, IsShort}
 use Rattle.ath_eval.specs.Report.{IsReading, told_of, file_of, Report, lines_of, usage_report, report_on, IsReportOn, MOST, IsReportOf, IsReport, TheoremsFollow, Wrote, Reports, ReportsTold, Completes, Ended, EndedOn}
 use Rattle.ath_eval.specs.declared.status.Status.{Status}

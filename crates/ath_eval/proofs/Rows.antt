@@ -5,9 +5,9 @@ use Rattle.std.specs.Prelude.{if◌then◌else◌}
 use Rattle.std.specs.Str.{is_utf8, chars}
 use Rattle.std.specs.Fmt.{digits}
 use Rattle.ath_syntax.specs.declared.place.Pos.{Pos}
-use Rattle.ath_reader.specs.Script.{named, implies, declare, assert, mp, Step}
-use Rattle.ath_reader.specs.Words.{is_constant_name}
-use Rattle.ath_reader.specs.Grammar.{is_name, is_if, names_end, names_more, some_declared, is_declare, is_assert, is_mp, steps_end, steps_more, IsScript}
+use Rattle.ath_first_reader.specs.Script.{named, implies, declare, assert, mp, Step}
+use Rattle.ath_first_reader.specs.Words.{is_constant_name}
+use Rattle.ath_first_reader.specs.Grammar.{is_name, is_if, names_end, names_more, some_declared, is_declare, is_assert, is_mp, steps_end, steps_more, IsScript}
 use Rattle.ath_names.specs.Names.{first_names}
 use Rattle.ath_terms.specs.declared.node.Conn.TheVariants.{If}
 use Rattle.ath_terms.specs.Tree.{Sent, atom, joined, constant}

@@ -5,9 +5,9 @@ use Rattle.std.specs.List.{list_any}
 use Rattle.std.specs.Prelude.{slice_index_or}
 use Rattle.ath_io.specs.Sink.{Held, with_put, with_puts}
 use Rattle.ath_io.proofs.Told.{with_puts-append}
-use Rattle.ath_reader.specs.declared.script.Directive.{Directive}
-use Rattle.ath_reader.specs.Script.{Step, step_of}
-use Rattle.ath_reader.proofs.Directives.{front_item}
+use Rattle.ath_first_reader.specs.declared.script.Directive.{Directive}
+use Rattle.ath_first_reader.specs.Script.{Step, step_of}
+use Rattle.ath_first_reader.proofs.Directives.{front_item}
 use Rattle.ath_eval.specs.Eval.{State, ran}
 use Rattle.ath_eval.specs.Lines.{line_of}
 use Rattle.ath_eval.specs.Report.{Said, said, run, is_refused, Ended}

@@ -18,7 +18,7 @@ use Rattle.ath_terms.proofs.SameLaws.{same_sent-true}
 use Rattle.ath_calculus.specs.Derives.{Derives, axiom_of, if_elim, IsIn}
 use Rattle.ath_calculus.specs.Laws.{Extends, AreIn}
 use Rattle.ath_calculus.proofs.Grown.{derivation_kept}
-use Rattle.ath_reader.specs.Script.{Tree, named, implies, Deed, declare, assert, mp, Step}
+use Rattle.ath_first_reader.specs.Script.{Tree, named, implies, Deed, declare, assert, mp, Step}
 use Rattle.ath_eval.specs.Events.{wrong_shape, not_in_base}
 use Rattle.ath_eval.specs.Eval.{State, first_state, is_constant, constant_of, Value, is, no_value, found, both, value_of, holds, Verdict, concludes, refuses, detached, modus_ponens, Ran, number_in, with_constant, with_constants, numbers_in, joining, ran_assert, ran_verdict, ran_mp, ran_deed, ran}
 use Rattle.ath_eval.specs.Report.{run, signature_after, asserted_after, IsJustified, AreJustified, told_of}

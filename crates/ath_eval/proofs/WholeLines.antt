@@ -11,13 +11,13 @@ use Rattle.ath_names.specs.Names.{number_of, interned, first_names}
 use Rattle.ath_terms.specs.declared.node.Conn.{Conn}
 use Rattle.ath_terms.specs.declared.node.Conn.TheVariants.{Not, And, Or, If, Iff}
 use Rattle.ath_terms.specs.Tree.{var, app, Sent, atom, equal, negated, joined, bound}
-use Rattle.ath_reader.specs.declared.token.Token.{Token}
-use Rattle.ath_reader.specs.declared.token.Token.TheVariants as token
-use Rattle.ath_reader.specs.declared.token.Mode.{Mode}
-use Rattle.ath_reader.specs.declared.token.Mode.TheVariants.{Between, Comment, Word}
-use Rattle.ath_reader.specs.Tokens.{is_blank_byte, is_word_byte, is_word_start, begun, behind, stepped, pending, followed_by, then_by, tokens_from, place_after, first_place}
-use Rattle.ath_reader.specs.Script.{Tree, named, implies, Deed, declare, assert, mp, Step}
-use Rattle.ath_reader.specs.Grammar.{IsExpr, is_name, is_if, AreNames, names_end, names_more, AreDeclared, one_declared, some_declared, IsDeed, is_declare, is_assert, is_mp, AreSteps, steps_end, steps_more, IsScript}
+use Rattle.ath_first_reader.specs.declared.token.Token.{Token}
+use Rattle.ath_first_reader.specs.declared.token.Token.TheVariants as token
+use Rattle.ath_first_reader.specs.declared.token.Mode.{Mode}
+use Rattle.ath_first_reader.specs.declared.token.Mode.TheVariants.{Between, Comment, Word}
+use Rattle.ath_first_reader.specs.Tokens.{is_blank_byte, is_word_byte, is_word_start, begun, behind, stepped, pending, followed_by, then_by, tokens_from, place_after, first_place}
+use Rattle.ath_first_reader.specs.Script.{Tree, named, implies, Deed, declare, assert, mp, Step}
+use Rattle.ath_first_reader.specs.Grammar.{IsExpr, is_name, is_if, AreNames, names_end, names_more, AreDeclared, one_declared, some_declared, IsDeed, is_declare, is_assert, is_mp, AreSteps, steps_end, steps_more, IsScript}
 use Rattle.ath_terms.specs.Same.{same_sent}
 use Rattle.ath_eval.specs.Eval.{State, first_state, look_up, Value, is, no_value, found, both, value_of, holds, Verdict, concludes, refuses, detached, modus_ponens, Ran, with_constant, with_constants, ran_assert, ran_verdict, ran_mp, ran_deed, ran}
 use Rattle.ath_eval.specs.Report.{said, run, IsReading, told_of}

@@ -7,7 +7,7 @@ use Rattle.ath_names.specs.Names.{number_of, interned, first_names}
 use Rattle.ath_terms.specs.declared.node.Conn.TheVariants.{Not, And, Or, If, Iff}
 use Rattle.ath_terms.specs.Tree.{Sent, atom, equal, negated, joined, bound, constant}
 use Rattle.ath_terms.specs.Same.{same_sent}
-use Rattle.ath_reader.specs.Script.{Tree, named, implies, Deed, declare, assert, mp, Step}
+use Rattle.ath_first_reader.specs.Script.{Tree, named, implies, Deed, declare, assert, mp, Step}
 use Rattle.ath_eval.specs.Events.{Refusal, unbound, wrong_shape, not_in_base, Event, declared, asserted, proved, refused}
 
 -- the table of names, the declared constants of sort Boolean, and the assumption base, oldest first

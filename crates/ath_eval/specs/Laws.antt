@@ -1,7 +1,7 @@
 -- Laws of runs and reports.
 use Rattle.std.specs.Prelude.{◌≡◌, ◌↔◌, ℕ, Bool, true, false, ◌==◌, List, [], ◌∷◌, ◌++◌, take, codes}
 use Rattle.std.specs.List.{list_any, AllByRecursion}
-use Rattle.ath_reader.specs.Script.{Step}
+use Rattle.ath_first_reader.specs.Script.{Step}
 use Rattle.ath_eval.specs.Events.{Event, declared, asserted, proved, refused}
 use Rattle.ath_eval.specs.Eval.{State, ran}
 use Rattle.ath_eval.specs.Report.{Said, is_refused, Report, IsReport, TheoremsFollow}

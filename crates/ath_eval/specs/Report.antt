@@ -7,9 +7,9 @@ use Rattle.ath_terms.specs.Tree.{Sent}
 use Rattle.ath_calculus.specs.Derives.{Derives}
 use Rattle.ath_io.specs.Shelf.{Texts, front_of, with_asked}
 use Rattle.ath_io.specs.Sink.{Held, with_put, with_puts}
-use Rattle.ath_reader.specs.Script.{Step}
-use Rattle.ath_reader.specs.Tokens.{first_place}
-use Rattle.ath_reader.specs.Grammar.{IsScript}
+use Rattle.ath_first_reader.specs.Script.{Step}
+use Rattle.ath_first_reader.specs.Tokens.{first_place}
+use Rattle.ath_first_reader.specs.Grammar.{IsScript}
 use Rattle.ath_eval.specs.Events.{not_built, Event, declared, asserted, proved, refused}
 use Rattle.ath_eval.specs.Eval.{State, first_state, Ran, ran}
 use Rattle.ath_eval.specs.Lines.{line_of}

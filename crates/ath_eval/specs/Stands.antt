@@ -1,8 +1,8 @@
 -- What the code's values stand for.
 use Rattle.std.specs.Prelude.{◌≡◌, ℕ, ◌<◌, ◌≤◌, List, Option, Some, None, map, length}
 use Rattle.std.specs.List.{All, AllByRecursion}
-use Rattle.ath_reader.specs.Script.{Step}
-use Rattle.ath_reader.specs.Grammar.{declared_by}
+use Rattle.ath_first_reader.specs.Script.{Step}
+use Rattle.ath_first_reader.specs.Grammar.{declared_by}
 use Rattle.ath_sorts.specs.declared.sorts.Sym.{Sym}
 use Rattle.ath_terms.specs.declared.node.SentId.{SentId}
 use Rattle.ath_terms.specs.declared.node.Conn.TheVariants.{If}

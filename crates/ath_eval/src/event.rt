@@ -1,6 +1,6 @@
 // What a directive does that is told.
 
-use ath_reader::text::Text;
+use ath_first_reader::text::Text;
 use ath_sorts::Sym;
 use ath_syntax::Pos;
 use ath_terms::SentId;

@@ -3,15 +3,15 @@
 ghost use Rattle.std.specs.Prelude.{◌≡◌, ◌<◌, ◌≤◌, [], ◌∷◌, ◌++◌, IfOk, OnOk, length};
 ghost use Rattle.ath_terms.specs.Trees.{sent_at, Grows};
 ghost use Rattle.ath_eval.specs.declared.event.Event.TheVariants.{Symbols};
-ghost use Rattle.ath_reader.specs.Script.{step_of, tree_of};
+ghost use Rattle.ath_first_reader.specs.Script.{step_of, tree_of};
 ghost use Rattle.ath_eval.specs.Eval.{first_state, joining, with_constant, with_constants, number_in, numbers_in, value_of, ran, ran_assert, ran_mp};
 ghost use Rattle.ath_eval.specs.Stands.{state_of, event_of, AreIn, AreShort, IsShort, IsEventIn, IsValue};
 
 use crate::event::{Event, Fault};
 use crate::value::{Answer, Found, detach, value};
 use ath_names::{NameError, Names};
-use ath_reader::script::{Directive, Expr, What};
-use ath_reader::text::Text;
+use ath_first_reader::script::{Directive, Expr, What};
+use ath_first_reader::text::Text;
 use ath_sorts::Sym;
 use ath_syntax::Pos;
 use ath_terms::{SentId, Store};

@@ -5,14 +5,14 @@ ghost use Rattle.std.specs.List.{list_any};
 ghost use Rattle.ath_terms.specs.Trees.{Trees, sent_at, Grows, IsSent};
 ghost use Rattle.ath_terms.specs.Tree.{atom, constant, joined};
 ghost use Rattle.ath_terms.specs.declared.node.Conn.TheVariants.{If};
-ghost use Rattle.ath_reader.specs.Script.{tree_of};
+ghost use Rattle.ath_first_reader.specs.Script.{tree_of};
 ghost use Rattle.ath_eval.specs.Eval.{is_constant, look_up, value_of, holds, modus_ponens};
 ghost use Rattle.ath_eval.specs.Stands.{sents_of, AreIn, AreParts, IsValue, IsVerdict};
 
 use crate::event::Fault;
 use ath_names::Names;
-use ath_reader::script::Expr;
-use ath_reader::text::Text;
+use ath_first_reader::script::Expr;
+use ath_first_reader::text::Text;
 use ath_sorts::Sym;
 use ath_syntax::Pos;
 use ath_terms::equality::is_same_sent;

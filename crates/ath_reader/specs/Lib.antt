@@ -1,5 +1,5 @@
-pub mod Script
-pub mod Words
-pub mod Tokens
-pub mod Grammar
-pub mod Readings
+pub mod Ahead
+pub mod Automata
+pub mod Operators
+pub mod Reading
+pub mod Steps

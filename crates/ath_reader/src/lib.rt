@@ -1,10 +1,12 @@
-//! The reader of scripts.
+//! Directives of a text, one after another, in both spellings.
 #![tactic(auto)]
 
-pub mod laws;
-pub mod names;
-pub mod parse;
-pub mod read;
-pub mod script;
-pub mod text;
-pub mod token;
+mod automaton;
+mod operators;
+mod reader;
+
+pub use operators::OpTable;
+pub use reader::{Reader, SyntaxError, SyntaxKind};
+
+#[cfg(test)]
+mod tests;

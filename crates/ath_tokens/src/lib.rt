@@ -8,6 +8,7 @@ mod mark;
 mod quoted;
 mod tokens;
 
+pub use mark::Mark;
 pub use tokens::{LexError, LexKind, Token, Tokens};
 
 #[cfg(test)]

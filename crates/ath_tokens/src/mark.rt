@@ -8,10 +8,10 @@ use ath_syntax::Pos;
 
 /// A byte of a text, the number of line ends before it, and the byte at which its line begins.
 #[derive(Clone, Copy, Debug)]
-pub(crate) struct Mark {
-    pub(crate) at: usize,
-    pub(crate) lines: u64,
-    pub(crate) line_start: usize,
+pub struct Mark {
+    pub at: usize,
+    pub lines: u64,
+    pub line_start: usize,
 }
 
 /// The mark of a later byte.
@@ -34,10 +34,9 @@ pub(crate) fn moved(text: &[u8], from: Mark, to: usize) -> Mark
     mark
 }
 
-/// The place of a marked byte.
+/// The place of a marked byte, or of the end.
 pub(crate) fn place(text: &[u8], file: usize, mark: Mark) -> Pos
-    requires mark { IsMark text.now mark }
-    requires within { mark.at < length text.now }
+    requires { IsMark text.now mark }
     ensures { result ≡ place_of file text.now mark.at }
 {
     Pos {

@@ -136,6 +136,31 @@ impl Tokens {
             }
         }
     }
+
+    /// The byte from which the next token is looked for, to come back to.
+    pub fn mark(&self) -> Mark
+        ensures at { result.at ≡ self.now.at }
+        ensures mark { IsMark self.now.text result }
+    {
+        self.mark
+    }
+
+    /// Goes back to a mark of this text: the tokens behind it are given once more, and so is a fault.
+    pub fn back_to(&mut self, mark: Mark)
+        requires { IsMark self.old.text mark }
+        ensures { self.new ≡ record self.old { at = mark.at; refused = None } }
+    {
+        self.mark = mark;
+        self.refused = None;
+    }
+
+    /// The place of the end of the text.
+    pub fn end(&self) -> Pos
+        ensures { result ≡ place_of self.now.file self.now.text (length self.now.text) }
+    {
+        let text = self.text.as_slice();
+        place(text, self.file, moved(text, self.mark, text.len()))
+    }
 }
 
 /// A token, its place, its first byte, and the mark of its end.

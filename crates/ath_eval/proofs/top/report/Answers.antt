@@ -1,7 +1,7 @@
 use Rattle.std.proofs.Common.{List, map, Option, Some, sym, subst}
-use Rattle.ath_reader.specs.declared.script.Directive.{Directive}
-use Rattle.ath_reader.specs.Script.{step_of}
-use Rattle.ath_reader.specs.Readings.{ReadsScript}
+use Rattle.ath_first_reader.specs.declared.script.Directive.{Directive}
+use Rattle.ath_first_reader.specs.Script.{step_of}
+use Rattle.ath_first_reader.specs.Readings.{ReadsScript}
 use Rattle.ath_eval.proofs.Reports.{short_directives, ended-on}
 use Rattle.ath_eval.proofs.top.report.Goals as goal
 

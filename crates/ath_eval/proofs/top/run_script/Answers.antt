@@ -1,5 +1,5 @@
 use Rattle.std.proofs.Common.{◌≡◌, ◌+◌, ◌||◌, List, map, drop, sym, ◌∙◌, ap, subst, arith}
-use Rattle.ath_reader.specs.Script.{Step, step_of}
+use Rattle.ath_first_reader.specs.Script.{Step, step_of}
 use Rattle.ath_eval.specs.Eval.{first_state, Ran}
 use Rattle.ath_eval.specs.Report.{run, IsTold}
 use Rattle.ath_eval.specs.Stands.{state_of}

@@ -1,5 +1,5 @@
 use Rattle.std.proofs.Common.{◌≤◌, drop, map}
-use Rattle.ath_reader.specs.Script.{step_of}
+use Rattle.ath_first_reader.specs.Script.{step_of}
 use Rattle.ath_eval.specs.Eval.{first_state}
 use Rattle.ath_eval.specs.Report.{run}
 use Rattle.ath_eval.specs.Stands.{state_of}

@@ -1,5 +1,5 @@
 use Rattle.std.proofs.Common.{ap}
-use Rattle.ath_reader.specs.Script.{tree_of}
+use Rattle.ath_first_reader.specs.Script.{tree_of}
 use Rattle.ath_terms.specs.Trees.{sent_at}
 use Rattle.ath_eval.specs.Eval.{value_of}
 use Rattle.ath_eval.proofs.Runs.{value_is, no_value_is, state_kept, assert_ran, assert_unbound}

@@ -1,5 +1,5 @@
 use Rattle.std.proofs.Common.{List, ◌∙◌, ap, subst, refl}
-use Rattle.ath_reader.specs.Script.{tree_of}
+use Rattle.ath_first_reader.specs.Script.{tree_of}
 use Rattle.ath_terms.specs.Trees.{sent_at}
 use Rattle.ath_terms.specs.declared.node.SentId.{SentId}
 use Rattle.ath_eval.specs.declared.value.Answer.TheVariants.{Concludes, Refuses}

@@ -1,0 +1,5 @@
+pub mod Script
+pub mod Words
+pub mod Tokens
+pub mod Grammar
+pub mod Readings

@@ -19,12 +19,13 @@ pub reads_snoc : (file : ℕ) (text : List ℕ) {names known last : List (List �
 reads_snoc file text reads_none e = reads_more e reads_none
 reads_snoc file text (reads_more f r) e = reads_more f (reads_snoc file text r e)
 
-depth_is : (ts : List Placed) (st : Config) → read_on true (Some beginning) ts ≡ Some st → depth ts ≡ level_of st
+pub depth_is : (ts : List Placed) (st : Config) → read_on true (Some beginning) ts ≡ Some st → depth ts ≡ level_of st
 depth_is ts st e = ap (λ (o : Option Config). elim o [ Some s ↦ level_of s | None ↦ 0 ]) e
 
 take_snoc : {A : Type 0} (P : List A → Type 0) (x : A) (ts : List A) → ((n : ℕ) → P (take n ts)) → P (ts ++ x ∷ []) → (n : ℕ) → P (take n (ts ++ x ∷ []))
 take_snoc P x [] f h zero = f zero
-take_snoc P x [] f h (suc n) = h
+take_snoc P x [] f h (suc zero) = h
+take_snoc P x [] f h (suc (suc n)) = h
 take_snoc P x (t ∷ ts) f h zero = f zero
 take_snoc P x (t ∷ ts) f h (suc n) = take_snoc (λ us. P (t ∷ us)) x ts (λ m. f (suc m)) h n
 

@@ -219,6 +219,14 @@ module _ (file : ℕ) (text : List ℕ) where
       let rest = reads_few next mid ts known to b.1 r in
       (omega (arith, b.0, rest.0), rest.1)
 
+  -- no more tokens than bytes
+  pub reads_short : (names : List (List ℕ)) (from : ℕ) (ts : List Placed) (known : List (List ℕ)) (to : ℕ) → Reads file text names from ts known to → length ts ≤ length text
+  reads_short names from [] known to r = omega arith
+  reads_short names from (t ∷ ts) known to (reads_more {known = next} {mid = mid} e r) =
+      let b = token_bytes names from t next mid e in
+      let rest = reads_few next mid ts known to b.1 r in
+      omega (arith, b.0, rest.0, rest.1)
+
   -- the names grow
   pub reads_grow : (names : List (List ℕ)) (from : ℕ) (ts : List Placed) (known : List (List ℕ)) (to : ℕ) → Reads file text names from ts known to → Grows names known
   reads_grow names from [] known to reads_none = Grows-refl names

@@ -1,4 +1,6 @@
 mod Carried
 mod KnownTokens
+mod Numbered
+mod ProperRead
 mod Seen
 mod Turned

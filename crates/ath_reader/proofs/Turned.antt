@@ -7,6 +7,8 @@ use Rattle.ath_grammar.proofs.Whole.{begins}
 use Rattle.ath_names.specs.Names.{Grows}
 use Rattle.ath_names.proofs.NamesLaws.{Grows-refl, Grows-trans}
 use Rattle.ath_tokens.specs.Cut.{place_of}
+use Rattle.ath_syntax.specs.declared.place.Pos.{Pos}
+use Rattle.ath_tokens.specs.declared.tokens.LexError.{LexError}
 use Rattle.ath_tokens.specs.Cutting.{Cutting}
 use Rattle.ath_automaton.specs.declared.tree.DirectiveTree as read
 use Rattle.ath_automaton.specs.Trees.{directive_of}
@@ -17,7 +19,7 @@ use Rattle.ath_reader.specs.declared.reader.Taken.TheVariants.{On, Whole}
 use Rattle.ath_reader.specs.declared.reader.SyntaxError.{SyntaxError}
 use Rattle.ath_reader.specs.declared.reader.SyntaxKind.{SyntaxKind}
 use Rattle.ath_reader.specs.declared.reader.SyntaxKind.TheVariants.{Lex, Unexpected, Unclosed, KindMix, TooDeep, Memory}
-use Rattle.ath_reader.specs.Ahead.{Ahead, a_token, the_end, a_fault, ahead, Reads, reads_none, names_past}
+use Rattle.ath_reader.specs.Ahead.{Ahead, a_token, the_end, a_fault, ahead, Reads, reads_none, reads_more, names_past}
 use Rattle.ath_reader.specs.Automata.{standing_of}
 use Rattle.ath_reader.specs.Reading.{Reading, depth, Shallow, Front, IsWhole, IsCut, place, Fails, Refuses}
 use Rattle.ath_reader.specs.Steps.{next_of, Looks, Takes, Rejects, Lasts, Turns, is_end, reading_of, ReadsTree}
@@ -54,6 +56,13 @@ begins_carried c names st e = record {
 snoc_some : (ts : List Placed) (t : Placed) → ts ++ t ∷ [] ≡ [] → ⊥
 snoc_some [] t e = absurd (grind (arith, e))
 snoc_some (x ∷ ts) t e = absurd (grind (arith, e))
+
+same_grows : (known known' : List (List ℕ)) → known' ≡ known → Grows known known'
+same_grows known known' k = subst (Grows known) (sym k) (Grows-refl known)
+
+has_begun : (b : Bool) → (b ≡ false → true ≡ false) → b ≡ true
+has_begun true f = refl
+has_begun false f = sym (f refl)
 
 module _ (old : Cutting) (names : List (List ℕ)) (c : Cutting) (known : List (List ℕ)) (st : Config) (begun : Bool) (carried : Carried old names c known st begun) where
   -- what is ahead from here on, in the text that is read
@@ -99,6 +108,7 @@ module _ (old : Cutting) (names : List (List ℕ)) (c : Cutting) (known : List (
   went_back new back t f r e = e ∙ grind (arith, t, f, r)
 
   pub turned_whole : (seen : Seen) (new back : Cutting) (known' : List (List ℕ)) (d : read.DirectiveTree) → old.refused ≡ None → Looks c known (Ok seen) new known' → Turns new st seen (Ok (Whole d)) → back ≡ record new { at = c.at; refused = None } → ReadsTree old names (Ok (Some d)) back known'
+  unfolding front
   turned_whole (Token l p) new back known' d r looks takes b =
       (front (a_token (at p l) known' new.at) looks.0, over_whole carried.tokens st carried.leads (at p l) known' new.at (directive_of d) takes, refl,
        went_back new back (ap (λ (x : Cutting). x.text) looks.3 ∙ text_same) (ap (λ (x : Cutting). x.file) looks.3 ∙ file_same) r b)
@@ -109,12 +119,52 @@ module _ (old : Cutting) (names : List (List ℕ)) (c : Cutting) (known : List (
       (front (a_fault e.kind n) f, fault_whole carried.tokens st carried.leads e.kind n (directive_of d) lasts, k, went_back new back (t ∙ text_same) (x ∙ file_same) r b)
 
   rejects : (t : Placed) (known' : List (List ℕ)) (to : ℕ) (o : Outcome) (kind : SyntaxKind) → step st t ≡ o → Rejects o kind → IsCut carried.tokens (a_token t known' to) × Fails (reading_of old) carried.tokens (a_token t known' to) kind (place t)
-  rejects t known' to no Unexpected s h = (no_cut carried.tokens st carried.leads t known' to s, not_loosely carried.tokens st carried.leads t no s refl, refl)
-  rejects t known' to (over false d) Unexpected s h = (over_cut carried.tokens st carried.leads t known' to d s, not_loosely carried.tokens st carried.leads t (over false d) s refl, refl)
-  rejects t known' to (on false new) KindMix s h = let m = mixed carried.tokens st carried.leads t new s in (on_cut carried.tokens st carried.leads t known' to false new s, m.0, m.1, refl)
-  rejects t known' to (on true new) TooDeep s h = let m = deep carried.tokens st carried.leads t new s h in (on_cut carried.tokens st carried.leads t known' to true new s, m.0, m.1, refl)
+  rejects t known' to no Unexpected s h = (no_cut carried.tokens st carried.leads t known' to s, (not_loosely carried.tokens st carried.leads t no s refl, refl))
+  rejects t known' to (over false d) Unexpected s h = (over_cut carried.tokens st carried.leads t known' to d s, (not_loosely carried.tokens st carried.leads t (over false d) s refl, refl))
+  rejects t known' to (on false new) KindMix s h = let m = mixed carried.tokens st carried.leads t new s in (on_cut carried.tokens st carried.leads t known' to false new s, (m.0, m.1, refl))
+  rejects t known' to (on true new) TooDeep s h = let m = deep carried.tokens st carried.leads t new s h in (on_cut carried.tokens st carried.leads t known' to true new s, (m.0, m.1, refl))
   rejects t known' to o kind s h = absurd h
 
   -- memory is wanted
   pub turned_wants : (new : Cutting) (known' : List (List ℕ)) (e : SyntaxError) → Grows known known' → new.text ≡ old.text → new.file ≡ old.file → e.kind ≡ Memory → ReadsTree old names (Err e) new known'
   turned_wants new known' e g t f m = (t, f, inl (m, Grows-trans (reads_grow old.file old.text names old.at carried.tokens known c.at carried.read) g))
+
+  refuses_token : (t : Placed) (new : Cutting) (known' : List (List ℕ)) (e : SyntaxError) → next_of c known ≡ a_token t known' new.at → new.text ≡ c.text → new.file ≡ c.file → e.pos ≡ place t → Rejects (step st t) e.kind → ReadsTree old names (Err e) new known'
+  unfolding front
+  refuses_token t new known' e a x f p h =
+      let r = rejects t known' new.at (step st t) e.kind refl h in
+      (x ∙ text_same, f ∙ file_same, inr (record {
+        front = front (a_token t known' new.at) a;
+        cut = r.0;
+        cause = subst (λ (o : Pos). Fails (reading_of old) carried.tokens (a_token t known' new.at) e.kind o) (sym p) r.1;
+        after = refl;
+      }))
+
+  -- the tokens end within a directive
+  refuses_end : (new : Cutting) (e : SyntaxError) → next_of c known ≡ the_end → new.text ≡ c.text → new.file ≡ c.file → e ≡ record { kind = Unclosed; pos = place_of new.file new.text (length new.text) } → (carried.tokens ≡ [] → ⊥) → ((d : DirectiveTree) → at_end st ≡ finished true d → ⊥) → ReadsTree old names (Err e) new known
+  unfolding front
+  refuses_end new e a x f same some n = (x ∙ text_same, f ∙ file_same, inr (record {
+        front = front the_end a;
+        cut = end_cut carried.tokens st carried.leads n;
+        cause = subst (λ (g : SyntaxError). Fails (reading_of old) carried.tokens the_end g.kind g.pos) (sym same) (some, grind (arith, x, f, text_same, file_same));
+        after = refl;
+      }))
+
+  refuses_fault : (new : Cutting) (e : SyntaxError) (g : LexError) (n : ℕ) → next_of c known ≡ a_fault g.kind n → new.text ≡ c.text → new.file ≡ c.file → g.pos ≡ place_of c.file c.text n → e ≡ record { kind = Lex g.kind; pos = g.pos } → ((d : DirectiveTree) → at_end st ≡ finished true d → ⊥) → ReadsTree old names (Err e) new known
+  unfolding front
+  refuses_fault new e g n a x f p same k = (x ∙ text_same, f ∙ file_same, inr (record {
+        front = front (a_fault g.kind n) a;
+        cut = fault_cut carried.tokens st carried.leads g.kind n k;
+        cause = subst (λ (h : SyntaxError). Fails (reading_of old) carried.tokens (a_fault g.kind n) h.kind h.pos) (sym same) (refl, p ∙ grind (arith, text_same, file_same));
+        after = refl;
+      }))
+
+  -- a refusal
+  pub turned_err : (seen : Seen) (new : Cutting) (known' : List (List ℕ)) (e : SyntaxError) → Looks c known (Ok seen) new known' → (begun ≡ false → is_end seen ≡ false) → Turns new st seen (Err e) → ReadsTree old names (Err e) new known'
+  turned_err (Token l p) new known' e looks ends (q, inl m) =
+      turned_wants new known' e (reads_grow old.file old.text known c.at (at p l ∷ []) known' new.at (reads_more (from_old (a_token (at p l) known' new.at) looks.0) reads_none)) (ap (λ (d : Cutting). d.text) looks.3 ∙ text_same) (ap (λ (d : Cutting). d.file) looks.3 ∙ file_same) m
+  turned_err (Token l p) new known' e looks ends (q, inr h) = refuses_token (at p l) new known' e looks.0 (ap (λ (d : Cutting). d.text) looks.3) (ap (λ (d : Cutting). d.file) looks.3) q h
+  turned_err End new known' e (a, k, n) ends (inl m) = turned_wants new known' e (same_grows known known' k) (ap (λ (d : Cutting). d.text) n ∙ text_same) (ap (λ (d : Cutting). d.file) n ∙ file_same) m
+  turned_err End new known' e (a, k, n) ends (inr h) = subst (λ (ns : List (List ℕ)). ReadsTree old names (Err e) new ns) (sym k) (refuses_end new e a (ap (λ (d : Cutting). d.text) n) (ap (λ (d : Cutting). d.file) n) h.0 (carried.some (has_begun begun ends)) h.1)
+  turned_err (Fault g) new known' e (n, a, p, k, x, f) ends (inl m) = turned_wants new known' e (same_grows known known' k) (x ∙ text_same) (f ∙ file_same) m
+  turned_err (Fault g) new known' e (n, a, p, k, x, f) ends (inr h) = subst (λ (ns : List (List ℕ)). ReadsTree old names (Err e) new ns) (sym k) (refuses_fault new e g n a x f p h.0 h.1)

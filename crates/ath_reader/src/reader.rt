@@ -268,6 +268,8 @@ fn read_directive(
     requires table { NamesGrow first_names names.old }
     ensures { NumbersTree tokens.old names.old phrases.old result tokens.new names.new phrases.new }
 {
+    // The contract of `len` says that no two names have one text.
+    let _count = names.len();
     let Some(tree) = read_tree(alloc, tokens, names)? else {
         return Ok(None);
     };

@@ -1,53 +1,43 @@
-use Rattle.std.proofs.Common.{rules, ◌≡◌, ◌≤◌, None, length, ℕ, ◌+◌, ◌-◌, ◌*◌, ◌<◌, ◌/◌, ◌%◌, Bool, true, false, nat_eq, nat_lt, List, [], ◌∷◌, ◌++◌, slice_index_or, slice_set, bit_and, bit_or, Fits, w8, w32, w64, Bor, MutBor}
-use Rattle.ath_grammar.specs.Machine.{level_of, at_end}
-use Rattle.ath_grammar.specs.Tokens.{at}
-use Rattle.ath_names.specs.Names.{Grows as NamesGrow}
-use Rattle.ath_names.specs.Names.{first_names}
+use Rattle.std.proofs.Common.{rules, ◌≡◌, Option, Some, Err, Ok, Result, Bool, true, false, sym, subst, ap, ◌∙◌}
+use Rattle.ath_automaton.specs.declared.tree.DirectiveTree.{DirectiveTree}
 use Rattle.ath_reader.specs.Automata.{standing_of}
-use Rattle.ath_reader.specs.Reading.{Answers, reached}
-use Rattle.ath_reader.specs.Steps.{Looks, Takes, Lasts, ReadsTree, NumbersTree}
+use Rattle.ath_reader.specs.declared.reader.SyntaxError.{SyntaxError}
+use Rattle.ath_reader.specs.declared.reader.Taken.{Taken}
+use Rattle.ath_reader.specs.declared.reader.Taken.TheVariants.{On, Whole}
+use Rattle.ath_reader.specs.Steps.{Turns, ReadsTree, is_end}
+use Rattle.ath_reader.proofs.Turned.{begins_carried, turned_on, turned_whole, turned_wants, turned_err}
+use Rattle.ath_reader.proofs.reader.read_tree.Goals.{else-not-begun-via-then-not-begun+else-is_end, else-not-begun-via-else-not-begun}
 use Rattle.ath_reader.proofs.reader.read_tree.Goals as goal
 
--- src/reader.rt:208:5
-pub loop-lexeme-init : goal.loop-lexeme-init
-loop-lexeme-init c = ?
+pub loop-seen-init : goal.loop-seen-init
+loop-seen-init c = begins_carried c.args.tokens.now c.args.names.now (standing_of c.new-automaton.result) c.new-automaton.ensures
 
--- src/reader.rt:210:29
-pub look-requires-clause-fresh : goal.look-requires-clause-fresh
-look-requires-clause-fresh c = ?
+pub returns-in_err-seen : goal.returns-in_err-seen
+returns-in_err-seen c =
+    let old = c.args.tokens.now in
+    let e = c.in_err-seen.ensures in
+    subst (λ (r : Result (Option DirectiveTree) SyntaxError). ReadsTree old c.args.names.now r c.look.new.tokens c.look.new.names) {x = Err c.in_err-seen.field-0.0} (search rules)
+    (turned_wants old c.args.names.now c.loop-seen.tokens c.loop-seen.names (standing_of c.loop-seen.automaton) c.loop-seen.begun c.loop-seen.invariant c.look.new.tokens c.look.new.names c.in_err-seen.field-0.0
+      e.1 (e.2 ∙ ap (λ d. d.text) c.loop-seen.invariant.same) (e.3 ∙ ap (λ d. d.file) c.loop-seen.invariant.same) e.0)
 
--- src/reader.rt:210:29
-pub returns-in_err-lexeme : goal.returns-in_err-lexeme
-returns-in_err-lexeme c = ?
+pub returns-in_err-next : goal.returns-in_err-next
+returns-in_err-next c =
+    let old = c.args.tokens.now in
+    subst (λ (r : Result (Option DirectiveTree) SyntaxError). ReadsTree old c.args.names.now r c.look.new.tokens c.look.new.names) {x = Err c.in_err-next.field-0.0} (search rules)
+    (turned_err old c.args.names.now c.loop-seen.tokens c.loop-seen.names (standing_of c.loop-seen.automaton) c.loop-seen.begun c.loop-seen.invariant c.in_ok-seen.seen c.look.new.tokens c.look.new.names c.in_err-next.field-0.0
+      c.in_ok-seen.ensures
+      (λ b. elim c.else-not-begun.branch [ else-not-begun-via-then-not-begun+else-is_end w ↦ sym w.is_end.ensures ∙ w.if-is_end.false | else-not-begun-via-else-not-begun w ↦ grind (rules, b, w.if-not-begun.false) ])
+      c.in_err-next.ensures)
 
--- src/reader.rt:212:23
-pub take-requires : goal.take-requires
-take-requires c = ?
-
--- src/reader.rt:212:23
-pub returns-in_err-next-in-Token : goal.returns-in_err-next-in-Token
-returns-in_err-next-in-Token c = ?
-
--- src/reader.rt:216:25
 pub returns-in-Whole : goal.returns-in-Whole
-returns-in-Whole c = ?
+returns-in-Whole c =
+    turned_whole c.args.tokens.now c.args.names.now c.loop-seen.tokens c.loop-seen.names (standing_of c.loop-seen.automaton) c.loop-seen.begun c.loop-seen.invariant c.in_ok-seen.seen c.look.new.tokens c.back_to.new.self c.look.new.names c.in-Whole.tree
+    c.requires c.in_ok-seen.ensures
+    (subst (λ (t : Taken). Turns c.look.new.tokens (standing_of c.loop-seen.automaton) c.in_ok-seen.seen (Ok t)) c.in-Whole.is c.in_ok-next.ensures)
+    (search rules)
 
--- src/reader.rt:208:5
-pub loop-lexeme-smaller : goal.loop-lexeme-smaller
-loop-lexeme-smaller c = ?
-
--- src/reader.rt:208:5
-pub loop-lexeme-preserved : goal.loop-lexeme-preserved
-loop-lexeme-preserved c = ?
-
--- src/reader.rt:224:21
-pub returns-then-not-begun : goal.returns-then-not-begun
-returns-then-not-begun c = ?
-
--- src/reader.rt:236:20
-pub returns-in_err-tree : goal.returns-in_err-tree
-returns-in_err-tree c = ?
-
--- src/reader.rt:238:9
-pub returns-in-loop-lexeme : goal.returns-in-loop-lexeme
-returns-in-loop-lexeme c = ?
+pub loop-seen-preserved : goal.loop-seen-preserved
+loop-seen-preserved c =
+    turned_on c.args.tokens.now c.args.names.now c.loop-seen.tokens c.loop-seen.names (standing_of c.loop-seen.automaton) c.loop-seen.begun c.loop-seen.invariant c.in_ok-seen.seen c.look.new.tokens c.look.new.names c.in-On.next
+    c.in_ok-seen.ensures
+    (subst (λ (t : Taken). Turns c.look.new.tokens (standing_of c.loop-seen.automaton) c.in_ok-seen.seen (Ok t)) c.in-On.is c.in_ok-next.ensures)

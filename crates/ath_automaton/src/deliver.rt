@@ -1,6 +1,6 @@
 // A value goes to what waits for it, until a token is waited for.
 
-ghost use Rattle.std.specs.Prelude.{◌≡◌, true, false, IfOk, List, [], ◌∷◌};
+ghost use Rattle.std.specs.Prelude.{◌≡◌, ◌≤◌, true, false, IfOk, List, [], ◌∷◌};
 ghost use Rattle.ath_automaton.specs.declared.frame.Frame.{Frame as Framed};
 ghost use Rattle.ath_automaton.specs.Calm.{is_calm, is_settled, is_wait};
 ghost use Rattle.ath_automaton.specs.Landings.{landing_of, is_quiet};
@@ -45,6 +45,7 @@ fn resume(
     ensures leads { IfOk result (λ n. next_of n (turned [] stack.new.items) ≡ outcome_of turn level (λ k. stack_of k (frame ∷ turned [] stack.old.items))) }
     ensures calm { IfOk result (λ n. is_calm turn ≡ true → is_calm n.turn ≡ true) }
     ensures rests { IfOk result (λ n. is_wait n.turn ≡ false → stack.new.items ≡ stack.old.items) }
+    ensures low { IfOk result (λ n. n.level ≤ level) }
 {
     match turn {
         Turn::Phrase(tree) => match frame {
@@ -103,6 +104,7 @@ fn land(next: Next) -> Landing
     ensures settled { is_settled next.turn ≡ true → (fs : List Framed) → landing_of result fs ≡ next_of next fs }
     ensures alone { landing_of result [] ≡ next_of next [] }
     ensures calm { is_calm next.turn ≡ true → is_quiet result.end ≡ true }
+    ensures low { result.level ≡ next.level }
 {
     let Next { level, turn } = next;
     let end = match turn {
@@ -117,6 +119,7 @@ fn land(next: Next) -> Landing
 pub fn deliver(alloc: Global, next: Next, stack: &mut Vec<Frame>) -> Result<Landing, AllocError>
     ensures lands { IfOk result (λ s. landing_of s (turned [] stack.new.items) ≡ next_of next (turned [] stack.old.items)) }
     ensures calm { IfOk result (λ s. is_calm next.turn ≡ true → is_quiet s.end ≡ true) }
+    ensures low { IfOk result (λ s. s.level ≤ next.level) }
 {
     let mut next = next;
     'values: while !is_settled(&next.turn) {

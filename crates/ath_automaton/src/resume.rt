@@ -1,6 +1,6 @@
 // What waits goes on with a value.
 
-ghost use Rattle.std.specs.Prelude.{◌≡◌, ◌<◌, ◌^◌, false, IfOk, List, [], map, true};
+ghost use Rattle.std.specs.Prelude.{◌≡◌, ◌≤◌, ◌<◌, ◌^◌, false, IfOk, List, [], map, true};
 ghost use Rattle.ath_grammar.specs.Machine.{deliver, settle};
 ghost use Rattle.ath_grammar.specs.Rules.{a_directive};
 ghost use Rattle.ath_grammar.specs.DirectiveRules.{finish, declared_as};
@@ -33,7 +33,8 @@ pub fn resume_phrases(
     frame: PhrasesFrame,
     read: Items<PhraseTree>,
 ) -> Result<Next, AllocError>
-    ensures { IfOk result (λ n. (fs : List Framed) → next_of n fs ≡ deliver (phrases_stack frame (λ k. stack_of k fs)) (phrases_of (map phrase_of read)) level) }
+    ensures leads { IfOk result (λ n. (fs : List Framed) → next_of n fs ≡ deliver (phrases_stack frame (λ k. stack_of k fs)) (phrases_of (map phrase_of read)) level) }
+    ensures low { IfOk result (λ n. n.level ≤ level) }
 {
     match frame {
         PhrasesFrame::List(pos) => Ok(phrase(level, PhraseTree::List(pos, read))),
@@ -52,7 +53,8 @@ pub fn resume_phrases(
 
 /// A list of patterns for what waits for it.
 pub fn resume_patterns(level: u64, frame: PatternsFrame, read: Items<PatternTree>) -> Next
-    ensures { (fs : List Framed) → next_of result fs ≡ deliver (patterns_stack frame (λ k. stack_of k fs)) (patterns_of (map pattern_of read)) level }
+    ensures leads { (fs : List Framed) → next_of result fs ≡ deliver (patterns_stack frame (λ k. stack_of k fs)) (patterns_of (map pattern_of read)) level }
+    ensures low { result.level ≤ level }
 {
     match frame {
         PatternsFrame::List => Next {
@@ -70,6 +72,7 @@ pub fn resume_patterns(level: u64, frame: PatternsFrame, read: Items<PatternTree
 pub fn finish(level: u64, own: bool, tree: DirectiveTree) -> Next
     ensures leads { (fs : List Framed) → next_of result fs ≡ settle (finish own (directive_of tree)) level (stack_of a_directive fs) }
     ensures calm { is_calm result.turn ≡ true }
+    ensures low { result.level ≤ level }
 {
     if own {
         Next {
@@ -95,7 +98,8 @@ pub fn declared(
     args: Items<SortText>,
     sort: SortText,
 ) -> Next
-    ensures { (fs : List Framed) → next_of result fs ≡ settle (declared_as own pos (back names) params args sort) level (stack_of a_directive fs) }
+    ensures leads { (fs : List Framed) → next_of result fs ≡ settle (declared_as own pos (back names) params args sort) level (stack_of a_directive fs) }
+    ensures low { result.level ≤ level }
 {
     finish(
         level,
@@ -118,6 +122,7 @@ pub fn resume_sorts(
 ) -> Result<Next, AllocError>
     ensures leads { IfOk result (λ n. next_of n (turned [] stack.new.items) ≡ deliver (sorts_stack frame (λ k. stack_of k (turned [] stack.old.items))) read level) }
     ensures rests { IfOk result (λ n. is_wait n.turn ≡ false → stack.new.items ≡ stack.old.items) }
+    ensures low { IfOk result (λ n. n.level ≤ level) }
 {
     match frame {
         SortsFrame::Con(name) => Ok(Next {

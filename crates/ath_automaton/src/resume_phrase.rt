@@ -1,6 +1,6 @@
 // What waits for a phrase goes on with one.
 
-ghost use Rattle.std.specs.Prelude.{◌≡◌, false, IfOk, List, [], ◌∷◌, true};
+ghost use Rattle.std.specs.Prelude.{◌≡◌, ◌≤◌, false, IfOk, List, [], ◌∷◌, true};
 ghost use Rattle.ath_grammar.specs.Phrases.{after_row};
 ghost use Rattle.ath_automaton.specs.declared.frame.Frame.{Frame as Framed};
 ghost use Rattle.ath_grammar.specs.Machine.{deliver};
@@ -68,6 +68,7 @@ fn resume_pair(
     ensures leads { IfOk result (λ n. next_of n (turned [] stack.new.items) ≡ deliver (pair_stack frame (λ k. stack_of k (turned [] stack.old.items))) (phrase_of tree) level) }
     ensures calm { IfOk result (λ n. is_calm n.turn ≡ true) }
     ensures rests { IfOk result (λ n. is_wait n.turn ≡ false → stack.new.items ≡ stack.old.items) }
+    ensures low { IfOk result (λ n. n.level ≤ level) }
 {
     match frame {
         PairFrame::OwnPair => Ok(wait(level, PhraseState::OwnClose(tree))),
@@ -91,6 +92,7 @@ fn resume_item(
     ensures leads { IfOk result (λ n. next_of n (turned [] stack.new.items) ≡ deliver (item_stack frame (λ k. stack_of k (turned [] stack.old.items))) (phrase_of tree) level) }
     ensures calm { IfOk result (λ n. is_calm n.turn ≡ true) }
     ensures rests { IfOk result (λ n. is_wait n.turn ≡ false → stack.new.items ≡ stack.old.items) }
+    ensures low { IfOk result (λ n. n.level ≤ level) }
 {
     match frame {
         ItemFrame::ApplyPart(pos, head) => {
@@ -133,6 +135,7 @@ fn resume_first(
     ensures leads { IfOk result (λ n. next_of n (turned [] stack.new.items) ≡ deliver (first_stack frame (λ k. stack_of k (turned [] stack.old.items))) (phrase_of tree) level) }
     ensures calm { IfOk result (λ n. is_calm n.turn ≡ true) }
     ensures rests { IfOk result (λ n. is_wait n.turn ≡ false → stack.new.items ≡ stack.old.items) }
+    ensures low { IfOk result (λ n. n.level ≤ level) }
 {
     match frame {
         FirstFrame::SeqFirst(pos) => {
@@ -191,6 +194,7 @@ fn resume_row(
 ) -> Result<Next, AllocError>
     ensures leads { IfOk result (λ n. (fs : List Framed) → next_of n fs ≡ deliver (row_stack frame (λ k. stack_of k fs)) (phrase_of tree) level) }
     ensures calm { IfOk result (λ n. is_calm n.turn ≡ true) }
+    ensures low { IfOk result (λ n. n.level ≤ level) }
 {
     match frame {
         RowFrame::ClosureBody(word, pos, names) => {
@@ -244,6 +248,7 @@ fn resume_sentence(
     ensures leads { IfOk result (λ n. next_of n (turned [] stack.new.items) ≡ deliver (sentence_stack frame (λ k. stack_of k (turned [] stack.old.items))) (phrase_of tree) level) }
     ensures calm { IfOk result (λ n. is_calm n.turn ≡ true) }
     ensures rests { IfOk result (λ n. is_wait n.turn ≡ false → stack.new.items ≡ stack.old.items) }
+    ensures low { IfOk result (λ n. n.level ≤ level) }
 {
     match frame {
         SentenceFrame::Sentence(word, pos, name) => {
@@ -282,6 +287,7 @@ fn resume_sentence(
 fn resume_whole(level: u64, frame: WholeFrame, tree: PhraseTree) -> Next
     ensures leads { (fs : List Framed) → next_of result fs ≡ deliver (whole_stack frame (λ k. stack_of k fs)) (phrase_of tree) level }
     ensures calm { is_calm result.turn ≡ true }
+    ensures low { result.level ≤ level }
 {
     match frame {
         WholeFrame::Said(pos) => Next {
@@ -322,6 +328,7 @@ fn resume_whole(level: u64, frame: WholeFrame, tree: PhraseTree) -> Next
 fn resume_clause(level: u64, frame: ClauseFrame, tree: PhraseTree) -> Result<Next, AllocError>
     ensures leads { IfOk result (λ n. (fs : List Framed) → next_of n fs ≡ deliver (clause_stack frame (λ k. stack_of k fs)) (phrase_of tree) level) }
     ensures calm { IfOk result (λ n. is_calm n.turn ≡ true) }
+    ensures low { IfOk result (λ n. n.level ≤ level) }
 {
     match frame {
         ClauseFrame::Scrutinee(word, pos, want) => Ok(clause(
@@ -365,6 +372,7 @@ fn resume_branch(
     ensures leads { IfOk result (λ n. next_of n (turned [] stack.new.items) ≡ deliver (branch_stack frame (λ k. stack_of k (turned [] stack.old.items))) (phrase_of tree) level) }
     ensures calm { IfOk result (λ n. is_calm n.turn ≡ true) }
     ensures rests { IfOk result (λ n. is_wait n.turn ≡ false → stack.new.items ≡ stack.old.items) }
+    ensures low { IfOk result (λ n. n.level ≤ level) }
 {
     match frame {
         BranchFrame::BranchCondition(pos, want, branches) => {
@@ -423,6 +431,7 @@ pub fn resume_phrase(
     ensures leads { IfOk result (λ n. next_of n (turned [] stack.new.items) ≡ deliver (phrase_stack frame (λ k. stack_of k (turned [] stack.old.items))) (phrase_of tree) level) }
     ensures calm { IfOk result (λ n. is_calm n.turn ≡ true) }
     ensures rests { IfOk result (λ n. is_wait n.turn ≡ false → stack.new.items ≡ stack.old.items) }
+    ensures low { IfOk result (λ n. n.level ≤ level) }
 {
     match frame {
         PhraseFrame::Pair(frame) => resume_pair(alloc, level, frame, tree, stack),

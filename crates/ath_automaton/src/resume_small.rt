@@ -1,6 +1,6 @@
 // What waits for a sort, a pattern, names, a header or a constructor goes on with one.
 
-ghost use Rattle.std.specs.Prelude.{◌≡◌, false, IfOk, List, []};
+ghost use Rattle.std.specs.Prelude.{◌≡◌, ◌≤◌, false, IfOk, List, []};
 ghost use Rattle.ath_grammar.specs.Machine.{deliver};
 ghost use Rattle.ath_grammar.specs.Phrases.{body_deduces};
 ghost use Rattle.ath_automaton.specs.declared.frame.Frame.{Frame as Framed};
@@ -30,7 +30,8 @@ pub fn resume_sort(
     frame: SortFrame,
     sort: SortText,
 ) -> Result<Next, AllocError>
-    ensures { IfOk result (λ n. (fs : List Framed) → next_of n fs ≡ deliver (sort_stack frame (λ k. stack_of k fs)) sort level) }
+    ensures leads { IfOk result (λ n. (fs : List Framed) → next_of n fs ≡ deliver (sort_stack frame (λ k. stack_of k fs)) sort level) }
+    ensures low { IfOk result (λ n. n.level ≤ level) }
 {
     match frame {
         SortFrame::Var(pos, name, number) => Ok(Next {
@@ -75,6 +76,7 @@ pub fn resume_pattern(
 ) -> Result<Next, AllocError>
     ensures leads { IfOk result (λ n. next_of n (turned [] stack.new.items) ≡ deliver (pattern_stack frame (λ k. stack_of k (turned [] stack.old.items))) (pattern_of pattern) level) }
     ensures rests { IfOk result (λ n. is_wait n.turn ≡ false → stack.new.items ≡ stack.old.items) }
+    ensures low { IfOk result (λ n. n.level ≤ level) }
 {
     match frame {
         PatternFrame::Item(closer, read) => {
@@ -127,6 +129,7 @@ pub fn resume_names(
 ) -> Result<Next, AllocError>
     ensures leads { IfOk result (λ n. next_of n (turned [] stack.new.items) ≡ deliver (names_stack frame (λ k. stack_of k (turned [] stack.old.items))) names level) }
     ensures rests { IfOk result (λ n. is_wait n.turn ≡ false → stack.new.items ≡ stack.old.items) }
+    ensures low { IfOk result (λ n. n.level ≤ level) }
 {
     match frame {
         NamesFrame::Closure(word, pos) => {
@@ -171,6 +174,7 @@ pub fn resume_header(
 ) -> Result<Next, AllocError>
     ensures leads { IfOk result (λ n. next_of n (turned [] stack.new.items) ≡ deliver (header_stack frame (λ k. stack_of k (turned [] stack.old.items))) (name, vars) level) }
     ensures rests { IfOk result (λ n. is_wait n.turn ≡ false → stack.new.items ≡ stack.old.items) }
+    ensures low { IfOk result (λ n. n.level ≤ level) }
 {
     match frame {
         HeaderFrame::Domain(own, pos) => Ok(finish(
@@ -201,7 +205,8 @@ pub fn resume_constructor(
     name: Sym,
     sorts: Items<SortText>,
 ) -> Result<Next, AllocError>
-    ensures { IfOk result (λ n. (fs : List Framed) → next_of n fs ≡ deliver (constructor_stack frame (λ k. stack_of k fs)) (name, sorts) level) }
+    ensures leads { IfOk result (λ n. (fs : List Framed) → next_of n fs ≡ deliver (constructor_stack frame (λ k. stack_of k fs)) (name, sorts) level) }
+    ensures low { IfOk result (λ n. n.level ≤ level) }
 {
     match frame {
         ConstructorFrame::First(pos, header, vars) => {

@@ -1,2 +1,4 @@
 //! Numbers for trees: nodes made of what is read.
 #![tactic(auto)]
+
+pub mod pattern;

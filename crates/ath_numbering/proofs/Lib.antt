@@ -1,2 +1,6 @@
-pub mod Taken
+pub mod Depths
+pub mod FitLaws
+pub mod FormLaws
 pub mod PatternLaws
+pub mod PhraseLists
+pub mod Taken

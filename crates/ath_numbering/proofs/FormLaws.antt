@@ -23,8 +23,10 @@ use Rattle.ath_syntax.specs.declared.node.SortText.{SortText}
 use Rattle.ath_syntax.specs.declared.node.Form.{Form}
 use Rattle.ath_syntax.specs.declared.node.Form.TheVariants as form
 use Rattle.ath_syntax.specs.Nodes.{Nodes, Grows}
-use Rattle.ath_syntax.specs.Tree.{Binder, Phrase, name_at, variable_at, string_at, list_at, ascribe_at, apply_at, call_at, check_at, try_at, seq_at, pick_any_at, pick_witness_at, Phrases, Bindings, Clauses, Branches}
+use Rattle.ath_syntax.specs.Tree.{Binder, Phrase, name_at, variable_at, string_at, list_at, ascribe_at, apply_at, call_at, check_at, try_at, seq_at, pick_any_at, pick_witness_at, Phrases, phrases_deduce, Bindings, Clauses, Branches}
 use Rattle.ath_syntax.specs.Stands.{IsForm, is_name, is_variable, is_string, is_list, is_ascribe, is_apply, is_call, is_lambda, is_method, is_let, is_letrec, is_match, is_check, is_try, is_seq, is_assume, is_absurd, is_pick_any, is_pick_witness, is_induct, is_cases, is_conclude, IsPhrase, ArePhrases, AreBindings, AreClauses, AreBranches, otherwise_none, otherwise_some}
+use Rattle.ath_numbering.specs.Proper.{Proper, ProperPhrases}
+use Rattle.ath_numbering.proofs.PhraseLists.{loose_phrases}
 use Rattle.ath_syntax.proofs.Kept.{keep_phrase, keep_bindings, keep_branches}
 
 -- ---- forms with no part that is one phrase
@@ -67,6 +69,16 @@ module _ (s : Nodes) (tree : PhraseTree) (p : Pos) where
 
   pub seq_form : (is : List PhraseId) (xs : List PhraseTree) → tree ≡ Seq p xs → ArePhrases s is (phrases_of (map phrase_of xs)) → IsForm s p (form.Seq is) (phrase_of tree)
   seq_form is xs e h = by _ _ _ e (seq_again p xs) (is_seq h)
+
+module _ (tree : PhraseTree) (p : Pos) where
+  pub list_parts : (xs : List PhraseTree) → tree ≡ Listed p xs → Proper (phrase_of tree) → ProperPhrases None (phrases_of (map phrase_of xs))
+  list_parts xs e q = let h = subst Proper (ap phrase_of e ∙ list_again p xs) q in loose_phrases (Some false) (phrases_of (map phrase_of xs)) h.0
+
+  pub try_parts : (xs : List PhraseTree) → tree ≡ Try p xs → Proper (phrase_of tree) → ProperPhrases None (phrases_of (map phrase_of xs))
+  try_parts xs e q = let h = subst Proper (ap phrase_of e ∙ try_again p xs) q in loose_phrases (Some (phrases_deduce (phrases_of (map phrase_of xs)))) (phrases_of (map phrase_of xs)) h.1
+
+  pub seq_parts : (xs : List PhraseTree) → tree ≡ Seq p xs → Proper (phrase_of tree) → ProperPhrases None (phrases_of (map phrase_of xs))
+  seq_parts xs e q = let h = subst Proper (ap phrase_of e ∙ seq_again p xs) q in loose_phrases (Some true) (phrases_of (map phrase_of xs)) h.1
 
 -- ---- forms with one part that was numbered last, given as what its box holds
 module _ (s : Nodes) (p : Pos) (i : PhraseId) (x y : PhraseTree) (e : y ≡ x) (h : IsPhrase s i (phrase_of y)) where

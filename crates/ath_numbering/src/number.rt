@@ -41,7 +41,7 @@ pub fn number_phrase(
 
 // The place and the form of a phrase, whose parts are numbered.
 #[cycle(phrases)]
-#[tactic(auto, using(crate::proofs::FormLaws::name_form, crate::proofs::FormLaws::variable_form, crate::proofs::FormLaws::string_form, crate::proofs::FormLaws::list_form, crate::proofs::FormLaws::try_form, crate::proofs::FormLaws::seq_form, crate::proofs::PhraseLists::loose_phrases))]
+#[tactic(auto, using(crate::proofs::FormLaws::name_form, crate::proofs::FormLaws::variable_form, crate::proofs::FormLaws::string_form, crate::proofs::FormLaws::list_form, crate::proofs::FormLaws::try_form, crate::proofs::FormLaws::seq_form))]
 fn placed_form(
     alloc: Global,
     phrases: &mut Phrases,

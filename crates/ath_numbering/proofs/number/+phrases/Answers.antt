@@ -3,14 +3,25 @@ use Rattle.ath_sorts.specs.declared.sorts.Sym.{Sym}
 use Rattle.ath_automaton.specs.declared.tree.PatternTree.{PatternTree}
 use Rattle.ath_automaton.specs.declared.tree.PhraseTree.{PhraseTree}
 use Rattle.ath_automaton.specs.Trees.{phrase_of, phrases_of}
+use Rattle.ath_automaton.specs.declared.tree.PhraseTree.TheFolds.{the_lemmas}
 use Rattle.ath_automaton.proofs.tree.PhraseTree.TheLaws.{the_size}
 use Rattle.ath_syntax.proofs.Growth.{Grows-trans}
 use Rattle.ath_syntax.proofs.Kept.{keep_phrase, keep_pattern_number}
 use Rattle.ath_numbering.specs.Proper.{ProperPhrases, ProperBindings, ProperClauses, ProperBranches}
 use Rattle.ath_numbering.proofs.Depths.{most_phrases, most_bindings, most_clauses, most_branches, deeper}
+use Rattle.ath_numbering.proofs.FormLaws.{list_parts, try_parts, seq_parts}
 use Rattle.ath_numbering.proofs.PhraseLists.{bindings_read, clauses_read, branches_read, phrases_listed, bindings_listed, clauses_listed, branches_listed, proper_phrase_among, proper_binding_among, proper_clause_among, proper_branch_among}
 use Rattle.ath_numbering.proofs.Taken.{Taken-none, Taken-more, Taken-split, Taken-smaller}
 use Rattle.ath_numbering.proofs.number.+phrases.Goals as goal
+
+pub placed_form-number_all-requires : goal.placed_form-number_all-requires
+placed_form-number_all-requires t c = (grind (arith, the_lemmas), list_parts c.args.tree c.in-List.pos c.in-List.parts c.in-List.is c.requires)
+
+pub placed_form-number_all-requires-in-Try : goal.placed_form-number_all-requires-in-Try
+placed_form-number_all-requires-in-Try t c = (grind (arith, the_lemmas), try_parts c.args.tree c.in-Try.pos c.in-Try.parts c.in-Try.is c.requires)
+
+pub placed_form-number_all-requires-in-Seq : goal.placed_form-number_all-requires-in-Seq
+placed_form-number_all-requires-in-Seq t c = (grind (arith, the_lemmas), seq_parts c.args.tree c.in-Seq.pos c.in-Seq.parts c.in-Seq.is c.requires)
 
 pub number_all-loop-tree-init : goal.number_all-loop-tree-init
 number_all-loop-tree-init t c = rw c.new-numbers.ensures.items (Taken-none phrases_listed _ _)

@@ -1,5 +1,5 @@
 -- The form of a proper phrase may stand in a node of the phrase's kind.
-use Rattle.std.proofs.Common.{◌≡◌, ℕ, ◌+◌, ◌*◌, ◌<◌, ◌≤◌, List, [], ◌∷◌, length, map, Bool, true, false, Option, None, Some, refl, sym, ap, ◌∙◌, subst, arith}
+use Rattle.std.proofs.Common.{◌≡◌, ◌+◌, ◌<◌, ◌≤◌, List, ◌∷◌, length, map, Bool, true, false, Option, Some, refl, sym, ap, ◌∙◌, subst, arith}
 use Rattle.std.specs.Prelude.{All}
 use Rattle.std.specs.List.{IsDistinct}
 use Rattle.std.proofs.lemmas.List.Elements.{All-nil, All-cons}
@@ -15,7 +15,7 @@ use Rattle.ath_syntax.specs.Fits.{IsPart, IsKind, IsBound, IsClosure, is_closure
 use Rattle.ath_syntax.specs.Fits.{is_closure as is_closure_node}
 use Rattle.ath_syntax.specs.Size.{patterns_size}
 use Rattle.ath_syntax.specs.Tree.{Phrase, Phrases, Bindings, Clauses, Branches, Otherwise, is_deduction, clauses_deduce, branches_deduce, phrases_deduce}
-use Rattle.ath_syntax.specs.Stands.{IsForm, is_name, is_variable, is_string, is_list, is_ascribe, is_apply, is_call, is_lambda, is_method, is_let, is_letrec, is_match, is_check, is_try, is_seq, is_assume, is_absurd, is_pick_any, is_pick_witness, is_induct, is_cases, is_conclude, IsNode, is_node, IsPhrase, is_phrase, ArePatterns, patterns_none, patterns_more, ArePhrases, phrases_none, phrases_more, AreBindings, bindings_none, bindings_more, AreClauses, clauses_none, clauses_more, AreBranches, branches_none, branches_more, IsOtherwise, otherwise_none, otherwise_some}
+use Rattle.ath_syntax.specs.Stands.{IsForm, is_name, is_variable, is_string, is_list, is_ascribe, is_apply, is_call, is_lambda, is_method, is_let, is_letrec, is_match, is_check, is_try, is_seq, is_assume, is_absurd, is_pick_any, is_pick_witness, is_induct, is_cases, is_conclude, is_node, IsPhrase, is_phrase, ArePatterns, patterns_none, patterns_more, ArePhrases, phrases_none, phrases_more, AreBindings, bindings_none, bindings_more, AreClauses, clauses_none, clauses_more, AreBranches, branches_none, branches_more, IsOtherwise, otherwise_none, otherwise_some}
 use Rattle.ath_syntax.proofs.NodeLaws.{part_of, kind_of}
 use Rattle.ath_numbering.specs.Proper.{Proper, ProperPhrases, ProperBindings, ProperClosures, ProperClauses, ProperBranches, ProperOtherwise, phrases_count, bindings_count, clauses_count, branches_count, otherwise_count, bound_names, clauses_patterns, bound_kind, is_closure, IsOfKind}
 

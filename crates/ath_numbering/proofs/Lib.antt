@@ -3,4 +3,5 @@ pub mod FitLaws
 pub mod FormLaws
 pub mod PatternLaws
 pub mod PhraseLists
+pub mod StatementLaws
 pub mod Taken

@@ -10,7 +10,6 @@ use Rattle.ath_grammar.specs.Phrases.{let_phrase}
 use Rattle.ath_syntax.specs.declared.place.Pos.{Pos}
 use Rattle.ath_syntax.specs.declared.node.PatId.{PatId}
 use Rattle.ath_syntax.specs.declared.node.PhraseId.{PhraseId}
-use Rattle.ath_syntax.specs.Nodes.{Nodes, Grows}
 use Rattle.ath_syntax.specs.Tree.{Phrase, Phrases, no_phrases, more_phrases, Bindings, no_bindings, more_bindings, Clauses, Branches, is_deduction}
 use Rattle.ath_syntax.specs.Stands.{IsPattern, IsPhrase, ArePhrases, phrases_none, phrases_more, AreBindings, bindings_none, bindings_more, AreClauses, clauses_none, clauses_more, AreBranches, branches_none, branches_more}
 use Rattle.ath_syntax.proofs.Kept.{keep_phrases, keep_bindings, keep_clauses, keep_branches}

@@ -1,5 +1,5 @@
 -- What a loop keeps that takes a list of trees from its end and numbers each.
-use Rattle.std.proofs.Common.{◌≡◌, ℕ, ◌≤◌, List, [], ◌∷◌, ◌++◌, reverse, refl, sym, ap, ◌∙◌, subst, arith}
+use Rattle.std.proofs.Common.{◌≡◌, ℕ, ◌≤◌, List, [], ◌∷◌, ◌++◌, reverse, sym, ap, ◌∙◌, subst, arith}
 use Rattle.std.proofs.lemmas.List.{append-nil, append_assoc, reverse-append}
 use denote.Param.Weighed.{most, most-append}
 use Rattle.ath_syntax.specs.Nodes.{Nodes, Grows}

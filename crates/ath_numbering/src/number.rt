@@ -79,6 +79,8 @@ fn placed_form(
     }
 }
 
+// Below, each form as its place and its form, with its parts numbered.
+
 #[cycle(phrases)]
 #[tactic(auto, using(crate::proofs::FormLaws::ascribe_form))]
 fn ascribe(
@@ -132,6 +134,7 @@ fn call(
     Ok((pos, Form::Call(head, args)))
 }
 
+// `lambda` and `method`.
 #[cycle(phrases)]
 #[tactic(auto, using(crate::proofs::FormLaws::lambda_form, crate::proofs::FormLaws::method_form))]
 fn closure(
@@ -153,6 +156,7 @@ fn closure(
     }
 }
 
+// `let`, `dlet` and `letrec`.
 #[cycle(phrases)]
 #[tactic(auto, using(crate::proofs::FormLaws::let_form, crate::proofs::FormLaws::let_deduction_form, crate::proofs::FormLaws::letrec_form, crate::proofs::PhraseLists::let_rows))]
 fn bind(
@@ -176,6 +180,7 @@ fn bind(
     }
 }
 
+// The forms with an expression and then clauses.
 #[cycle(phrases)]
 #[tactic(auto, using(crate::proofs::FormLaws::match_form, crate::proofs::FormLaws::match_deduction_form, crate::proofs::FormLaws::induct_form, crate::proofs::FormLaws::cases_form))]
 fn choose(
@@ -223,6 +228,7 @@ fn check(
     }
 }
 
+// The forms with a sentence and then a deduction.
 #[cycle(phrases)]
 #[tactic(auto, using(crate::proofs::FormLaws::assume_form, crate::proofs::FormLaws::absurd_form, crate::proofs::FormLaws::conclude_form))]
 fn suppose(

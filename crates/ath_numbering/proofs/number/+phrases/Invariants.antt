@@ -1,4 +1,4 @@
-use Rattle.std.proofs.Common.{ℕ, ◌+◌, ◌*◌, length}
+use Rattle.std.proofs.Common.{◌+◌, ◌*◌, length}
 use Rattle.ath_automaton.proofs.tree.PhraseTree.TheLaws.{the_size}
 use Rattle.ath_numbering.proofs.Taken.{Taken}
 use Rattle.ath_numbering.proofs.Depths.{most_phrases, most_bindings, most_clauses, most_branches, most_otherwise, deeper}

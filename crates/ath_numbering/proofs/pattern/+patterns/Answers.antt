@@ -1,11 +1,10 @@
-use Rattle.std.proofs.Common.{◌≡◌, ◌≤◌, List, ◌∷◌, ◌++◌, map, length, sym, ap, ◌∙◌, subst, arith, reverse}
+use Rattle.std.proofs.Common.{◌≡◌, ◌≤◌, List, ◌∷◌, ◌++◌, map, subst, arith}
 use Rattle.ath_automaton.specs.Trees.{pattern_of, patterns_of}
 use Rattle.ath_automaton.specs.declared.tree.PatternTree.{PatternTree}
 use Rattle.ath_automaton.proofs.tree.PatternTree.TheLaws.{the_size}
 use Rattle.ath_numbering.specs.Proper.{ProperPatterns}
-use Rattle.ath_syntax.specs.Stands.{IsPatternNode, pattern_is_any, pattern_is_name, pattern_is_string, pattern_is_some}
 use Rattle.ath_numbering.proofs.Taken.{Taken-none, Taken-more, Taken-split, Taken-smaller}
-use Rattle.ath_numbering.proofs.PatternLaws.{list_node, list_of_node, app_node, pattern_fits, proper_among, patterns_listed}
+use Rattle.ath_numbering.proofs.PatternLaws.{pattern_fits, proper_among, patterns_listed}
 use Rattle.ath_numbering.proofs.pattern.+patterns.Goals as goal
 
 pub number_pattern-add_pat-requires : goal.number_pattern-add_pat-requires

@@ -40,25 +40,25 @@ fn refuse(level: u64) -> Next
 }
 
 /// The first token of a sort.
-pub fn sort(level: u64, pos: Pos, token: Lexeme, stack: &Vec<Frame>) -> Next
+pub fn sort(level: u64, pos: Pos, token: &Lexeme, stack: &Vec<Frame>) -> Next
     requires { level < 2 ^ 32 }
-    ensures { next_of result (turned [] stack.now.items) ≡ settle (sort_rule (at pos token)) level (stack_of a_sort (turned [] stack.now.items)) }
+    ensures { next_of result (turned [] stack.now.items) ≡ settle (sort_rule (at pos token.now)) level (stack_of a_sort (turned [] stack.now.items)) }
 {
     match token {
-        Lexeme::Word(class, name) => match class {
+        Lexeme::Word(class, name) => match *class {
             WordClass::Plain => Next {
                 level,
-                turn: Turn::Sort(SortText::Name(name)),
+                turn: Turn::Sort(SortText::Name(*name)),
             },
             WordClass::Dotted => Next {
                 level,
-                turn: Turn::Sort(SortText::Name(name)),
+                turn: Turn::Sort(SortText::Name(*name)),
             },
             _ => refuse(level),
         },
         Lexeme::SortVar(name) => Next {
             level,
-            turn: Turn::Sort(SortText::Var(name)),
+            turn: Turn::Sort(SortText::Var(*name)),
         },
         Lexeme::Open => wait(level + 1, SmallState::SortName),
         _ => refuse(level),
@@ -71,19 +71,19 @@ pub fn sort_name(
     alloc: Global,
     level: u64,
     pos: Pos,
-    token: Lexeme,
+    token: &Lexeme,
     stack: &mut Vec<Frame>,
 ) -> Result<Next, AllocError>
-    ensures { IfOk result (λ n. next_of n (turned [] stack.new.items) ≡ settle (sort_named (at pos token)) level (stack_of a_sort (turned [] stack.old.items))) }
+    ensures { IfOk result (λ n. next_of n (turned [] stack.new.items) ≡ settle (sort_named (at pos token.now)) level (stack_of a_sort (turned [] stack.old.items))) }
 {
     match token {
-        Lexeme::Word(class, name) => match class {
+        Lexeme::Word(class, name) => match *class {
             WordClass::Plain => {
-                stack.push(Frame::Sorts(SortsFrame::Con(name)))?;
+                stack.push(Frame::Sorts(SortsFrame::Con(*name)))?;
                 Ok(wait(level, SmallState::Sorts(Closer::Round, Items::new(alloc))))
             }
             WordClass::Dotted => {
-                stack.push(Frame::Sorts(SortsFrame::Con(name)))?;
+                stack.push(Frame::Sorts(SortsFrame::Con(*name)))?;
                 Ok(wait(level, SmallState::Sorts(Closer::Round, Items::new(alloc))))
             }
             _ => Ok(refuse(level)),
@@ -115,13 +115,13 @@ pub fn sorts(
     closer: Closer,
     read: Items<SortText>,
     pos: Pos,
-    token: Lexeme,
+    token: &Lexeme,
     stack: &mut Vec<Frame>,
 ) -> Result<Next, AllocError>
     requires { level < 2 ^ 32 }
-    ensures { IfOk result (λ n. next_of n (turned [] stack.new.items) ≡ settle (sorts_rule (closer_of closer) (back read) (at pos token)) level (stack_of sorts_kind (turned [] stack.old.items))) }
+    ensures { IfOk result (λ n. next_of n (turned [] stack.new.items) ≡ settle (sorts_rule (closer_of closer) (back read) (at pos token.now)) level (stack_of sorts_kind (turned [] stack.old.items))) }
 {
-    if closes(closer, &token) {
+    if closes(closer, token) {
         return Ok(Next {
             level: level.saturating_sub(1),
             turn: Turn::Sorts(read),
@@ -138,31 +138,31 @@ pub fn pattern(
     alloc: Global,
     level: u64,
     pos: Pos,
-    token: Lexeme,
+    token: &Lexeme,
     stack: &mut Vec<Frame>,
 ) -> Result<Next, AllocError>
     requires { level < 2 ^ 32 }
-    ensures { IfOk result (λ n. next_of n (turned [] stack.new.items) ≡ settle (pattern_rule (at pos token)) level (stack_of a_pattern (turned [] stack.old.items))) }
+    ensures { IfOk result (λ n. next_of n (turned [] stack.new.items) ≡ settle (pattern_rule (at pos token.now)) level (stack_of a_pattern (turned [] stack.old.items))) }
 {
     match token {
         Lexeme::Wild(_name) => Ok(Next {
             level,
             turn: Turn::Pattern(PatternTree::Any),
         }),
-        Lexeme::Word(class, name) => match class {
+        Lexeme::Word(class, name) => match *class {
             WordClass::Plain => Ok(Next {
                 level,
-                turn: Turn::Pattern(PatternTree::Name(name)),
+                turn: Turn::Pattern(PatternTree::Name(*name)),
             }),
             WordClass::Dotted => Ok(Next {
                 level,
-                turn: Turn::Pattern(PatternTree::Name(name)),
+                turn: Turn::Pattern(PatternTree::Name(*name)),
             }),
             _ => Ok(refuse(level)),
         },
         Lexeme::Str(text) => Ok(Next {
             level,
-            turn: Turn::Pattern(PatternTree::Str(text)),
+            turn: Turn::Pattern(PatternTree::Str(Items::from_slice(alloc, text.as_slice())?)),
         }),
         Lexeme::OpenBracket => {
             stack.push(Frame::Patterns(PatternsFrame::List))?;
@@ -238,14 +238,14 @@ pub fn pattern_inside(
 }
 
 /// The name behind one of the words `some-..`.
-pub fn some_name(level: u64, word: Sym, pos: Pos, token: Lexeme, stack: &Vec<Frame>) -> Next
-    ensures { next_of result (turned [] stack.now.items) ≡ settle (some_named word (at pos token)) level (stack_of a_pattern (turned [] stack.now.items)) }
+pub fn some_name(level: u64, word: Sym, pos: Pos, token: &Lexeme, stack: &Vec<Frame>) -> Next
+    ensures { next_of result (turned [] stack.now.items) ≡ settle (some_named word (at pos token.now)) level (stack_of a_pattern (turned [] stack.now.items)) }
 {
     match token {
-        Lexeme::Word(class, name) => match class {
+        Lexeme::Word(class, name) => match *class {
             WordClass::Plain => wait(
                 level,
-                SmallState::PatternClose(PatternTree::SomeOf(word, name)),
+                SmallState::PatternClose(PatternTree::SomeOf(word, *name)),
             ),
             _ => refuse(level),
         },
@@ -258,10 +258,10 @@ pub fn pattern_close(
     level: u64,
     read: PatternTree,
     pos: Pos,
-    token: Lexeme,
+    token: &Lexeme,
     stack: &Vec<Frame>,
 ) -> Next
-    ensures { next_of result (turned [] stack.now.items) ≡ settle (marked close_mark (shallower (done (pattern_of read))) (at pos token)) level (stack_of a_pattern (turned [] stack.now.items)) }
+    ensures { next_of result (turned [] stack.now.items) ≡ settle (marked close_mark (shallower (done (pattern_of read))) (at pos token.now)) level (stack_of a_pattern (turned [] stack.now.items)) }
 {
     match token {
         Lexeme::Close => Next {
@@ -280,13 +280,13 @@ pub fn patterns(
     closer: Closer,
     read: Items<PatternTree>,
     pos: Pos,
-    token: Lexeme,
+    token: &Lexeme,
     stack: &mut Vec<Frame>,
 ) -> Result<Next, AllocError>
     requires { level < 2 ^ 32 }
-    ensures { IfOk result (λ n. next_of n (turned [] stack.new.items) ≡ settle (patterns_rule (closer_of closer) (patterns_back no_patterns read) (at pos token)) level (stack_of patterns_kind (turned [] stack.old.items))) }
+    ensures { IfOk result (λ n. next_of n (turned [] stack.new.items) ≡ settle (patterns_rule (closer_of closer) (patterns_back no_patterns read) (at pos token.now)) level (stack_of patterns_kind (turned [] stack.old.items))) }
 {
-    if closes(closer, &token) {
+    if closes(closer, token) {
         return Ok(Next {
             level: level.saturating_sub(1),
             turn: Turn::Patterns(read),

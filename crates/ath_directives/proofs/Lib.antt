@@ -3,3 +3,4 @@ pub mod DatatypeLaws
 pub mod DeclareLaws
 pub mod DefineLaws
 pub mod PartLaws
+pub mod WayLaws

@@ -7,7 +7,8 @@ use Rattle.ath_grammar.specs.Rules.{Constructor}
 use Rattle.ath_automaton.specs.declared.tree.DirectiveTree.{DirectiveTree}
 use Rattle.ath_automaton.specs.declared.state.DirectiveState.{DirectiveState}
 use Rattle.ath_automaton.specs.declared.state.DirectiveState.TheVariants as ds
-use Rattle.ath_directives.specs.Parts.{directive_lingers, begins, in_datatype, in_sorts, declares}
+use Rattle.ath_automaton.specs.Calm.{directive_lingers}
+use Rattle.ath_directives.specs.Parts.{begins, in_datatype, in_sorts, declares}
 
 pub not_first : (s : DirectiveState) → (s ≡ ds.Beginning → ⊥) → ((p : Pos) → s ≡ ds.Inside p → ⊥) → ((p : Pos) (closed : Bool) → s ≡ ds.Assert p closed → ⊥) → begins s ≡ false
 not_first ds.Beginning f g h = absurd (f refl)

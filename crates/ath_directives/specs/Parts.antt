@@ -3,12 +3,6 @@ use Rattle.std.specs.Prelude.{Bool, true, false}
 use Rattle.ath_automaton.specs.declared.state.DirectiveState.{DirectiveState}
 use Rattle.ath_automaton.specs.declared.state.DirectiveState.TheVariants as ds
 
--- whether a state looks at a token without taking it
-abbrev pub directive_lingers : DirectiveState → Bool
-directive_lingers (ds.AfterConstructor p m vs cs) = true
-directive_lingers (ds.AssertName p closed q m) = true
-directive_lingers _ = false
-
 -- whether the next token may be the first of a phrase
 abbrev pub begins : DirectiveState → Bool
 begins ds.Beginning = true

@@ -1,6 +1,6 @@
 // The tokens of domains and datatypes.
 
-ghost use Rattle.std.specs.Prelude.{◌≡◌, ◌<◌, ◌^◌, IfOk, List, [], true};
+ghost use Rattle.std.specs.Prelude.{◌≤◌, ◌≡◌, ◌<◌, ◌^◌, IfOk, List, [], true};
 ghost use Rattle.ath_automaton.specs.declared.frame.Frame.{Frame as Framed};
 ghost use Rattle.ath_syntax.specs.Tree.{directive_at, datatype_is};
 ghost use Rattle.ath_grammar.specs.Lists.{put};
@@ -9,6 +9,7 @@ ghost use Rattle.ath_grammar.specs.Rules.{a_header, a_constructor, a_directive, 
 ghost use Rattle.ath_grammar.specs.SmallRules.{marked, close_mark, becomes_mark};
 ghost use Rattle.ath_grammar.specs.DirectiveRules.{header_rule, header_name, header_var, constructor_rule, constructor_name, constructor_list_rule, alternative};
 ghost use Rattle.ath_grammar.specs.Machine.{settle, step};
+ghost use Rattle.ath_automaton.specs.Calm.{is_calm};
 ghost use Rattle.ath_automaton.specs.Trees.{turned, back, directive_of};
 ghost use Rattle.ath_automaton.specs.Configs.{stack_of, next_of, directive_config};
 
@@ -163,7 +164,9 @@ pub fn datatype_read(
     params: Items<Sym>,
     read: Constructors,
 ) -> Next
-    ensures { (fs : List Framed) → next_of result fs ≡ settle (done (directive_at start (datatype_is name params (put (back read) [])))) level (stack_of a_directive fs) }
+    ensures leads { (fs : List Framed) → next_of result fs ≡ settle (done (directive_at start (datatype_is name params (put (back read) [])))) level (stack_of a_directive fs) }
+    ensures calm { is_calm result.turn ≡ true }
+    ensures low { result.level ≤ level }
 {
     Next {
         level,

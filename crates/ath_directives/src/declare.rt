@@ -215,7 +215,7 @@ fn type_sort(
     ensures { IfOk result (λ n. next_of n (turned [] stack.new.items) ≡ settle (push (declared_as own start (back names) params []) (sort_rule (at pos token))) level (stack_of a_directive (turned [] stack.old.items))) }
 {
     stack.push(Frame::Sort(SortFrame::Declared(own, start, names, params, Items::new(alloc))))?;
-    let next = sort(level, pos, token, stack);
+    let next = sort(level, pos, &token, stack);
     Ok(next)
 }
 

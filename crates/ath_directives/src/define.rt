@@ -1,6 +1,6 @@
 // The tokens of definitions, assertions and loads.
 
-ghost use Rattle.std.specs.Prelude.{◌≡◌, ◌<◌, ◌^◌, IfOk, List, [], false, true, Some, None};
+ghost use Rattle.std.specs.Prelude.{◌≤◌, ◌≡◌, ◌<◌, ◌^◌, IfOk, List, [], false, true, Some, None};
 ghost use Rattle.ath_automaton.specs.declared.frame.Frame.{Frame as Framed};
 ghost use Rattle.ath_syntax.specs.Tree.{directive_at, define_is, define_fun_is, name_at};
 ghost use Rattle.ath_grammar.specs.Kinds.{any, only};
@@ -10,6 +10,7 @@ ghost use Rattle.ath_grammar.specs.SmallRules.{marked, is_mark, becomes_mark};
 ghost use Rattle.ath_grammar.specs.PhraseRules.{phrase_rule};
 ghost use Rattle.ath_grammar.specs.DirectiveRules.{finish, define_rule, fun_name, asserted, assert_rule, load_rule};
 ghost use Rattle.ath_grammar.specs.Machine.{settle, step};
+ghost use Rattle.ath_automaton.specs.Calm.{is_calm};
 ghost use Rattle.ath_automaton.specs.Trees.{turned};
 ghost use Rattle.ath_automaton.specs.Configs.{stack_of, next_of, moved, directive_config};
 
@@ -256,7 +257,9 @@ pub fn assert_name(
 /// A name that is asserted itself.
 #[tactic(auto, using(crate::proofs::DefineLaws::name_asserted))]
 pub fn name_asserted(level: u64, start: Pos, closed: bool, name_pos: Pos, name: Sym) -> Next
-    ensures { (fs : List Framed) → next_of result fs ≡ settle (asserted false start closed None (name_at name_pos name)) level (stack_of a_directive fs) }
+    ensures leads { (fs : List Framed) → next_of result fs ≡ settle (asserted false start closed None (name_at name_pos name)) level (stack_of a_directive fs) }
+    ensures calm { is_calm result.turn ≡ true }
+    ensures low { result.level ≤ level }
 {
     finish(
         level,

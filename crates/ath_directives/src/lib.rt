@@ -7,3 +7,4 @@ pub mod datatype;
 pub mod declare;
 pub mod define;
 pub mod tokens;
+pub mod way;

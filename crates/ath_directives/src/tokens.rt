@@ -5,7 +5,8 @@ ghost use Rattle.ath_grammar.specs.Tokens.{at};
 ghost use Rattle.ath_grammar.specs.Machine.{step};
 ghost use Rattle.ath_automaton.specs.Trees.{turned};
 ghost use Rattle.ath_automaton.specs.Configs.{stack_of, next_of, moved, directive_config};
-ghost use Rattle.ath_directives.specs.Parts.{directive_lingers, begins, declares, in_sorts, in_datatype};
+ghost use Rattle.ath_automaton.specs.Calm.{directive_lingers};
+ghost use Rattle.ath_directives.specs.Parts.{begins, declares, in_sorts, in_datatype};
 
 use crate::answer::fits;
 use crate::beginning::{beginning, inside};

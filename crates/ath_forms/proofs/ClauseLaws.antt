@@ -20,5 +20,5 @@ use Rattle.ath_automaton.specs.Trees.{turned, phrase_of, clauses_back}
 use Rattle.ath_automaton.specs.Configs.{stack_of, next_of, want_of}
 use Rattle.ath_automaton.proofs.Turns.{turned_push}
 
-pub rows_next : (c : ClauseWord) (p : Pos) (e : PhraseTree) (w : Want) (read : List (PatternTree × PhraseTree)) (q : Pos) (s t : Lexeme) (level : ℕ) (old new last : List Frame) (n : Next) → s ≡ t → new ≡ old ++ f.Pattern (ClauseRow c p e w read) ∷ [] → next_of n (turned [] last) ≡ settle (pattern_rule (at q s)) level (stack_of a_pattern (turned [] new)) → next_of n (turned [] last) ≡ settle (clause_rows_rule c p (phrase_of e) (want_of w) (clauses_back no_clauses read) (at q t)) level (stack_of a_phrase (turned [] old))
-rows_next c p e w read q s t level old new last n same pushed g = g ∙ ap (λ (u : Lexeme). settle (pattern_rule (at q u)) level (stack_of a_pattern (turned [] new))) same ∙ ap (λ (fs : List Frame). settle (pattern_rule (at q t)) level (stack_of a_pattern fs)) (ap (turned []) pushed ∙ turned_push [] old (f.Pattern (ClauseRow c p e w read)))
+pub rows_next : (c : ClauseWord) (p : Pos) (e : PhraseTree) (w : Want) (read : List (PatternTree × PhraseTree)) (q : Pos) (t : Lexeme) (level : ℕ) (old new last : List Frame) (n : Next) → new ≡ old ++ f.Pattern (ClauseRow c p e w read) ∷ [] → next_of n (turned [] last) ≡ settle (pattern_rule (at q t)) level (stack_of a_pattern (turned [] new)) → next_of n (turned [] last) ≡ settle (clause_rows_rule c p (phrase_of e) (want_of w) (clauses_back no_clauses read) (at q t)) level (stack_of a_phrase (turned [] old))
+rows_next c p e w read q t level old new last n pushed g = g ∙ ap (λ (fs : List Frame). settle (pattern_rule (at q t)) level (stack_of a_pattern fs)) (ap (turned []) pushed ∙ turned_push [] old (f.Pattern (ClauseRow c p e w read)))

@@ -9,4 +9,5 @@ pub mod Picks
 pub mod RowSteps
 pub mod Sentences
 pub mod StateLaws
+pub mod WayLaws
 pub mod Ways

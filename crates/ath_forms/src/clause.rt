@@ -167,40 +167,6 @@ pub fn pairs(
     }
 }
 
-/// A token again; only that of a string holds memory.
-fn copied(alloc: Global, token: &Lexeme) -> Result<Lexeme, AllocError>
-    ensures { IfOk result (λ again. again ≡ token.now) }
-{
-    Ok(match token {
-        Lexeme::Word(class, name) => Lexeme::Word(*class, *name),
-        Lexeme::Form(word) => Lexeme::Form(*word),
-        Lexeme::Directive(word) => Lexeme::Directive(*word),
-        Lexeme::Wild(name) => Lexeme::Wild(*name),
-        Lexeme::Else => Lexeme::Else,
-        Lexeme::Arrow => Lexeme::Arrow,
-        Lexeme::To => Lexeme::To,
-        Lexeme::Unequal => Lexeme::Unequal,
-        Lexeme::ListOf => Lexeme::ListOf,
-        Lexeme::SomeOf(word) => Lexeme::SomeOf(*word),
-        Lexeme::Var(name, number) => Lexeme::Var(*name, *number),
-        Lexeme::SortVar(name) => Lexeme::SortVar(*name),
-        Lexeme::Str(text) => Lexeme::Str(Items::from_slice(alloc, text.as_slice())?),
-        Lexeme::Becomes => Lexeme::Becomes,
-        Lexeme::Open => Lexeme::Open,
-        Lexeme::Close => Lexeme::Close,
-        Lexeme::OpenBracket => Lexeme::OpenBracket,
-        Lexeme::CloseBracket => Lexeme::CloseBracket,
-        Lexeme::OpenBrace => Lexeme::OpenBrace,
-        Lexeme::CloseBrace => Lexeme::CloseBrace,
-        Lexeme::Bar => Lexeme::Bar,
-        Lexeme::Comma => Lexeme::Comma,
-        Lexeme::Semicolon => Lexeme::Semicolon,
-        Lexeme::Bang => Lexeme::Bang,
-        Lexeme::Colon => Lexeme::Colon,
-        Lexeme::Dot => Lexeme::Dot,
-    })
-}
-
 /// The first token of a clause in braces.
 #[tactic(auto, using(crate::proofs::ClauseLaws::rows_next))]
 pub fn rows(
@@ -215,7 +181,6 @@ pub fn rows(
     requires { level < 2 ^ 32 }
     ensures { IfOk result (λ n. next_of n (turned [] stack.new.items) ≡ settle (clause_rows_rule head.word head.start (phrase_of head.scrutinee) (want_of head.want) (clauses_back no_clauses read) (at pos token.now)) level (stack_of a_phrase (turned [] stack.old.items))) }
 {
-    let token = copied(alloc, token)?;
     stack.push(row_frame(head, read))?;
     pattern(alloc, level, pos, token, stack)
 }

@@ -1,6 +1,6 @@
 // The tokens of forms with a sentence.
 
-ghost use Rattle.std.specs.Prelude.{◌≡◌, ◌<◌, ◌^◌, false, IfOk, MatchOption, Some, None, []};
+ghost use Rattle.std.specs.Prelude.{◌≤◌, true, ◌≡◌, ◌<◌, ◌^◌, false, IfOk, MatchOption, Some, None, []};
 ghost use Rattle.ath_syntax.specs.Tree.{name_at};
 ghost use Rattle.ath_grammar.specs.declared.lexeme.Lexeme.TheVariants.{Word as a_word};
 ghost use Rattle.ath_grammar.specs.declared.lexeme.WordClass.TheVariants.{Plain as plain};
@@ -10,6 +10,7 @@ ghost use Rattle.ath_grammar.specs.Rules.{a_phrase, goto, push, phrase_part};
 ghost use Rattle.ath_grammar.specs.SmallRules.{is_mark, becomes_mark};
 ghost use Rattle.ath_grammar.specs.PhraseRules.{hypothesis_rule, hypothesis_body};
 ghost use Rattle.ath_grammar.specs.Machine.{settle};
+ghost use Rattle.ath_automaton.specs.Calm.{is_calm};
 ghost use Rattle.ath_automaton.specs.Trees.{turned};
 ghost use Rattle.ath_automaton.specs.Configs.{stack_of, next_of, moved};
 
@@ -116,7 +117,9 @@ pub fn hypothesis_body(
     name: Sym,
     stack: &mut Vec<Frame>,
 ) -> Result<Next, AllocError>
-    ensures { IfOk result (λ n. next_of n (turned [] stack.new.items) ≡ settle (hypothesis_body word place None (name_at pos name)) level (stack_of a_phrase (turned [] stack.old.items))) }
+    ensures leads { IfOk result (λ n. next_of n (turned [] stack.new.items) ≡ settle (hypothesis_body word place None (name_at pos name)) level (stack_of a_phrase (turned [] stack.old.items))) }
+    ensures calm { IfOk result (λ n. is_calm n.turn ≡ true) }
+    ensures low { IfOk result (λ n. n.level ≤ level) }
 {
     stack.push(Frame::Phrase(PhraseFrame::Sentence(SentenceFrame::HypothesisBody(
         word,

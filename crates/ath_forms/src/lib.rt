@@ -13,3 +13,5 @@ pub mod list;
 pub mod phrase;
 pub mod pick;
 pub mod row;
+pub mod tokens;
+pub mod way;

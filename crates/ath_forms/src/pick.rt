@@ -1,12 +1,13 @@
 // The tokens of `pick-any` and `pick-witness`.
 
-ghost use Rattle.std.specs.Prelude.{◌≡◌, IfOk, List, [], ◌∷◌, Some, None};
+ghost use Rattle.std.specs.Prelude.{◌≡◌, ◌≤◌, true, IfOk, List, [], ◌∷◌, Some, None};
 ghost use Rattle.ath_grammar.specs.declared.lexeme.Lexeme.TheVariants.{Form as a_form};
 ghost use Rattle.ath_grammar.specs.Tokens.{at, begins_phrase, is_colon, is_name};
 ghost use Rattle.ath_grammar.specs.Rules.{a_phrase, goto, peek, push, sort_part};
 ghost use Rattle.ath_grammar.specs.PhraseRules.{after_sorted, binders_rule, pick_body, pick_last, witness_name};
 ghost use Rattle.ath_grammar.specs.Machine.{settle};
 ghost use Rattle.ath_automaton.specs.declared.frame.Frame.{Frame as Framed};
+ghost use Rattle.ath_automaton.specs.Calm.{is_calm};
 ghost use Rattle.ath_automaton.specs.Trees.{turned, back};
 ghost use Rattle.ath_automaton.specs.Configs.{stack_of, next_of, moved};
 
@@ -130,7 +131,9 @@ pub fn pick_body(
     binders: Binders,
     stack: &mut Vec<Frame>,
 ) -> Result<Next, AllocError>
-    ensures { IfOk result (λ n. next_of n (turned [] stack.new.items) ≡ settle (pick_body place (back binders)) level (stack_of a_phrase (turned [] stack.old.items))) }
+    ensures leads { IfOk result (λ n. next_of n (turned [] stack.new.items) ≡ settle (pick_body place (back binders)) level (stack_of a_phrase (turned [] stack.old.items))) }
+    ensures calm { IfOk result (λ n. is_calm n.turn ≡ true) }
+    ensures low { IfOk result (λ n. n.level ≤ level) }
 {
     stack.push(Frame::Phrase(PhraseFrame::Sentence(SentenceFrame::PickBody(place, binders))))?;
     Ok(wait(level, PhraseState::Start(Want::Only(true))))
@@ -145,7 +148,9 @@ pub fn name_body(
     name: Sym,
     stack: &mut Vec<Frame>,
 ) -> Result<Next, AllocError>
-    ensures { IfOk result (λ n. next_of n (turned [] stack.new.items) ≡ settle (pick_body place ((name, None) ∷ back binders)) level (stack_of a_phrase (turned [] stack.old.items))) }
+    ensures leads { IfOk result (λ n. next_of n (turned [] stack.new.items) ≡ settle (pick_body place ((name, None) ∷ back binders)) level (stack_of a_phrase (turned [] stack.old.items))) }
+    ensures calm { IfOk result (λ n. is_calm n.turn ≡ true) }
+    ensures low { IfOk result (λ n. n.level ≤ level) }
 {
     let binders = with_bare(binders, name)?;
     let next = pick_body(level, place, binders, stack)?;
@@ -162,7 +167,9 @@ pub fn pick_last(
     name: Sym,
     stack: &mut Vec<Frame>,
 ) -> Result<Move, AllocError>
-    ensures { IfOk result (λ m. moved m (turned [] stack.new.items) ≡ settle (pick_last place (back binders) pos name) level (stack_of a_phrase (turned [] stack.old.items))) }
+    ensures leads { IfOk result (λ m. moved m (turned [] stack.new.items) ≡ settle (pick_last place (back binders) pos name) level (stack_of a_phrase (turned [] stack.old.items))) }
+    ensures calm { IfOk result (λ m. is_calm m.next.turn ≡ true) }
+    ensures low { IfOk result (λ m. m.next.level ≤ level) }
 {
     if binders.is_empty() {
         let next = name_body(level, place, binders, name, stack)?;

@@ -11,7 +11,7 @@ use Rattle.ath_numbering.specs.Proper.{ProperPhrases, ProperBindings, ProperClau
 use Rattle.ath_numbering.proofs.Depths.{most_phrases, most_bindings, most_clauses, most_branches, deeper}
 use Rattle.ath_numbering.proofs.FormLaws.{list_parts, try_parts, seq_parts}
 use Rattle.ath_numbering.proofs.PhraseLists.{bindings_read, clauses_read, branches_read, phrases_listed, bindings_listed, clauses_listed, branches_listed, proper_phrase_among, proper_binding_among, proper_clause_among, proper_branch_among}
-use Rattle.ath_numbering.proofs.Taken.{Taken-none, Taken-more, Taken-split, Taken-smaller}
+use Rattle.ath_numbering.proofs.Listings.{Taken-none, Taken-more, Taken-split, Taken-smaller}
 use Rattle.ath_numbering.proofs.number.+phrases.Goals as goal
 
 pub placed_form-number_all-requires : goal.placed_form-number_all-requires

@@ -1,5 +1,5 @@
 use Rattle.std.proofs.Common.{length}
-use Rattle.ath_numbering.proofs.Taken.{Taken}
+use Rattle.ath_numbering.proofs.Listings.{Taken}
 use Rattle.ath_numbering.proofs.PatternLaws.{patterns_listed}
 use Rattle.ath_numbering.proofs.pattern.+patterns.Given as goal
 

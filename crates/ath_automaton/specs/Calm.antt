@@ -37,6 +37,14 @@ is_settled t.Refuse = true
 is_settled (t.Wait w) = true
 is_settled _ = false
 
+-- whether a turn's value is a list of names, a part of a directive or a directive
+abbrev pub is_part : Turn → Bool
+is_part (t.Names vs) = true
+is_part (t.Header m vs) = true
+is_part (t.Constructor m os) = true
+is_part (t.Directive d) = true
+is_part _ = false
+
 -- whether a turn ends in no state that lingers, whatever waits
 abbrev pub is_calm : Turn → Bool
 is_calm t.Refuse = true

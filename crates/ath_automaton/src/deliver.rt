@@ -2,7 +2,7 @@
 
 ghost use Rattle.std.specs.Prelude.{◌≡◌, ◌≤◌, true, false, IfOk, List, [], ◌∷◌};
 ghost use Rattle.ath_automaton.specs.declared.frame.Frame.{Frame as Framed};
-ghost use Rattle.ath_automaton.specs.Calm.{is_calm, is_settled, is_wait};
+ghost use Rattle.ath_automaton.specs.Calm.{is_calm, is_part, is_settled, is_wait};
 ghost use Rattle.ath_automaton.specs.Landings.{landing_of, is_quiet};
 ghost use Rattle.ath_automaton.specs.Trees.{turned};
 ghost use Rattle.ath_automaton.specs.Configs.{stack_of, next_of, outcome_of};
@@ -72,6 +72,24 @@ fn resume(
             Frame::Patterns(frame) => Ok(resume_patterns(level, frame, read)),
             _other => Ok(refuse(level)),
         },
+        other => resume_part(alloc, level, frame, other, stack),
+    }
+}
+
+/// The same for names and the parts of a directive.
+fn resume_part(
+    alloc: Global,
+    level: u64,
+    frame: Frame,
+    turn: Turn,
+    stack: &mut Vec<Frame>,
+) -> Result<Next, AllocError>
+    requires { is_part turn ≡ true }
+    ensures leads { IfOk result (λ n. next_of n (turned [] stack.new.items) ≡ outcome_of turn level (λ k. stack_of k (frame ∷ turned [] stack.old.items))) }
+    ensures calm { IfOk result (λ n. is_calm turn ≡ true → is_calm n.turn ≡ true) }
+    ensures rests { IfOk result (λ n. is_wait n.turn ≡ false → stack.new.items ≡ stack.old.items) }
+{
+    match turn {
         Turn::Names(names) => match frame {
             Frame::Names(frame) => resume_names(level, frame, names, stack),
             _other => Ok(refuse(level)),

@@ -13,6 +13,7 @@ pub mod small;
 pub mod state;
 pub mod tree;
 
+pub use deliver::{Landing, Settled};
 pub use frame::{Closer, Frame, Separator, Want};
 pub use state::{Move, Next, State, Turn};
 pub use tree::{DirectiveTree, PatternTree, PhraseTree, StatementTree};

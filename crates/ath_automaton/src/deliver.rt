@@ -88,6 +88,7 @@ fn resume_part(
     ensures leads { IfOk result (λ n. next_of n (turned [] stack.new.items) ≡ outcome_of turn level (λ k. stack_of k (frame ∷ turned [] stack.old.items))) }
     ensures calm { IfOk result (λ n. is_calm turn ≡ true → is_calm n.turn ≡ true) }
     ensures rests { IfOk result (λ n. is_wait n.turn ≡ false → stack.new.items ≡ stack.old.items) }
+    ensures low { IfOk result (λ n. n.level ≤ level) }
 {
     match turn {
         Turn::Names(names) => match frame {

@@ -1,5 +1,5 @@
 -- Alternatives in parentheses go on with what a brace or the first of them begins with.
-use Rattle.std.proofs.Common.{◌≡◌, ℕ, suc, ◌+◌, List, [], ◌∷◌, ◌++◌, Bool, true, false, refl, sym, ap, ◌∙◌, arith}
+use Rattle.std.proofs.Common.{◌≡◌, ℕ, suc, ◌+◌, List, [], ◌∷◌, ◌++◌, true, false, refl, sym, ap, ◌∙◌, arith}
 use Rattle.ath_syntax.specs.declared.place.Pos.{Pos}
 use Rattle.ath_syntax.specs.Tree.{try_at, no_phrases, more_phrases, is_deduction}
 use Rattle.ath_grammar.specs.declared.lexeme.Lexeme.{Lexeme}

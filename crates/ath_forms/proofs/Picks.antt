@@ -1,12 +1,12 @@
 -- The names of a `pick-any`: one more, and the last of all.
-use Rattle.std.proofs.Common.{◌≡◌, ◌↔◌, IsTrue, ℕ, List, [], ◌∷◌, Bool, true, false, None, refl, sym, ap, ◌∙◌}
+use Rattle.std.proofs.Common.{◌≡◌, ◌↔◌, IsTrue, ℕ, List, [], ◌∷◌, Bool, false, None, refl, sym, ap, ◌∙◌}
 use Rattle.ath_sorts.specs.declared.sorts.Sym.{Sym}
 use Rattle.ath_syntax.specs.declared.place.Pos.{Pos}
 use Rattle.ath_syntax.specs.Tree.{Binder, Phrase, name_at, pick_any_at}
 use Rattle.ath_grammar.specs.declared.lexeme.Lexeme.{Lexeme}
 use Rattle.ath_grammar.specs.Tokens.{at}
 use Rattle.ath_grammar.specs.Lists.{put}
-use Rattle.ath_grammar.specs.Rules.{a_phrase, check, done}
+use Rattle.ath_grammar.specs.Rules.{a_phrase}
 use Rattle.ath_grammar.specs.PhraseRules.{binders_rule, pick_body, pick_last}
 use Rattle.ath_grammar.specs.Machine.{Stack, also, deliver, settle}
 use Rattle.ath_automaton.specs.declared.frame.Frame.{Frame}

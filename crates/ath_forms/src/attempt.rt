@@ -1,4 +1,4 @@
-// The tokens of `try`.
+// The tokens of `try`. The place of the form is `place`, that of the token `pos`.
 
 ghost use Rattle.std.specs.Prelude.{◌≡◌, ◌<◌, ◌^◌, false, IfOk, []};
 ghost use Rattle.ath_grammar.specs.declared.lexeme.Lexeme.TheVariants.{OpenBrace as open_brace};

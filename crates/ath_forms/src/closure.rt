@@ -1,4 +1,4 @@
-// The tokens of `lambda` and `method`.
+// The tokens of `lambda` and `method`. The place of the form is `place`, that of the token `pos`.
 
 ghost use Rattle.std.specs.Prelude.{◌≡◌, ◌<◌, ◌^◌, IfOk, []};
 ghost use Rattle.ath_grammar.specs.declared.lexeme.Lexeme.TheVariants.{Form as a_form};

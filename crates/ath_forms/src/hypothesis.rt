@@ -1,4 +1,4 @@
-// The tokens of forms with a sentence.
+// The tokens of forms with a sentence. The place of the form is `place`, that of the token `pos`.
 
 ghost use Rattle.std.specs.Prelude.{◌≤◌, true, ◌≡◌, ◌<◌, ◌^◌, false, IfOk, MatchOption, Some, None, []};
 ghost use Rattle.ath_syntax.specs.Tree.{name_at};

@@ -1,4 +1,4 @@
-// The tokens of `pick-any` and `pick-witness`.
+// The tokens of `pick-any` and `pick-witness`. The place of the form is `place`, that of the token `pos`.
 
 ghost use Rattle.std.specs.Prelude.{◌≡◌, ◌≤◌, true, IfOk, List, [], ◌∷◌, Some, None};
 ghost use Rattle.ath_grammar.specs.declared.lexeme.Lexeme.TheVariants.{Form as a_form};

@@ -1,10 +1,8 @@
-// The tokens of `let`, `dlet` and `letrec`.
+// The tokens of `let`, `dlet` and `letrec`. The place of the form is `place`, that of the token `pos`.
 
 ghost use Rattle.std.specs.Prelude.{◌≡◌, ◌==◌, ◌<◌, ◌^◌, IfOk, List, []};
 ghost use Rattle.std.specs.List.{list_any};
 ghost use Rattle.ath_syntax.specs.Tree.{no_bindings, more_bindings};
-ghost use Rattle.ath_grammar.specs.declared.lexeme.Lexeme.TheVariants.{Word as a_word};
-ghost use Rattle.ath_grammar.specs.declared.lexeme.WordClass.TheVariants.{Plain as plain};
 ghost use Rattle.ath_grammar.specs.Kinds.{bound};
 ghost use Rattle.ath_grammar.specs.Tokens.{at};
 ghost use Rattle.ath_grammar.specs.Lists.{names_of};

@@ -12,7 +12,7 @@ use crate::answer::{done, free};
 use crate::hypothesis::{hypothesis_body, hypothesis_named, is_becomes};
 use crate::list::after_var_on;
 use crate::pick::{
-    begins_phrase, binder_sort, binders, is_colon, name_body, name_of, next_binder, pick_body,
+    begins_phrase, binder_sort, binders, is_colon, is_name, name_body, next_binder, pick_body,
     pick_last,
 };
 use ath_automaton::frame::Binders;
@@ -96,7 +96,7 @@ fn after_name(
     ensures way { IfOk result (λ w. way_of (at pos token.now) w (turned [] stack.new.items) ≡ step (phrase_config (PhraseState.AfterName place read name_pos name) level (λ k. stack_of k (turned [] stack.old.items))) (at pos token.now)) }
     ensures handed { IfOk result (λ w. IsHanded level w) }
 {
-    if name_of(token).is_some() {
+    if is_name(token) {
         let next = next_binder(level, place, read, name, pos, token)?;
         Ok(Way::Takes(free(next)))
     } else if is_colon(token) {
@@ -124,7 +124,7 @@ fn after_sorted(
     ensures way { IfOk result (λ w. way_of (at pos token.now) w (turned [] stack.new.items) ≡ step (phrase_config (PhraseState.AfterSorted place read) level (λ k. stack_of k (turned [] stack.old.items))) (at pos token.now)) }
     ensures handed { IfOk result (λ w. IsHanded level w) }
 {
-    if name_of(token).is_some() {
+    if is_name(token) {
         let next = binders(level, place, read, pos, token);
         Ok(Way::Takes(free(next)))
     } else {

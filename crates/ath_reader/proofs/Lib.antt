@@ -1,5 +1,7 @@
 mod Carried
+mod Endings
 mod KnownTokens
+mod Landings
 mod Numbered
 mod ProperRead
 mod Seen

@@ -2,6 +2,7 @@
 #![tactic(auto)]
 
 mod automaton;
+mod ending;
 mod operators;
 mod reader;
 

@@ -1,6 +1,4 @@
 pub mod Attempts
-pub mod CheckLaws
-pub mod ClauseLaws
 pub mod FormLaws
 pub mod InsideLaws
 pub mod ListLaws
@@ -8,6 +6,5 @@ pub mod Names
 pub mod Picks
 pub mod RowSteps
 pub mod Sentences
-pub mod StateLaws
 pub mod WayLaws
 pub mod Ways

@@ -3,9 +3,6 @@
 
 pub mod answer;
 pub mod attempt;
-pub mod branch;
-pub mod clause;
-pub mod clauses;
 pub mod closure;
 pub mod hypothesis;
 pub mod inside;

@@ -31,7 +31,7 @@ pub enum Way {
 }
 
 /// A token behind a variable.
-#[tactic(auto, using(crate::proofs::WayLaws::var_handed))]
+#[tactic(auto, using(crate::proofs::WayLaws::var_taken, crate::proofs::WayLaws::var_handed))]
 fn after_var(
     level: u64,
     place: Pos,
@@ -44,16 +44,12 @@ fn after_var(
     ensures way { IfOk result (λ w. way_of (at pos token.now) w (turned [] stack.new.items) ≡ step (phrase_config (PhraseState.AfterVar place name index) level (λ k. stack_of k (turned [] stack.old.items))) (at pos token.now)) }
     ensures handed { IfOk result (λ w. IsHanded level w) }
 {
-    match token {
-        Lexeme::Colon => {
-            let next = after_var_on(level, place, name, index, pos, stack)?;
-            Ok(Way::Takes(free(next)))
-        }
-        _ => Ok(Way::Hands(free(done(
-            level,
-            PhraseTree::Var(place, name, index, None),
-        )))),
+    if is_colon(token) {
+        let next = after_var_on(level, place, name, index, pos, stack)?;
+        return Ok(Way::Takes(free(next)));
     }
+    let tree = PhraseTree::Var(place, name, index, None);
+    Ok(Way::Hands(free(done(level, tree))))
 }
 
 /// A token behind a name that is a sentence, or names one.

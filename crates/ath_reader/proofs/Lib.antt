@@ -6,3 +6,4 @@ mod Numbered
 mod ProperRead
 mod Seen
 mod Turned
+mod Viewed

@@ -2,5 +2,5 @@
 use Rattle.ath_forms.proofs.Sentences.{body_next}
 use Rattle.ath_forms.proofs.hypothesis.hypothesis_body.Goals as goal
 
-pub returns : goal.returns
-returns c = body_next c.args.word c.args.place c.args.pos c.args.name c.args.level c.args.stack.now.items c.push.new.self.items c.wait.result c.in_ok-push.ensures.items c.wait.ensures
+pub returns-clause-leads : goal.returns-clause-leads
+returns-clause-leads c = body_next c.args.word c.args.place c.args.pos c.args.name c.args.level c.args.stack.now.items c.push.new.self.items c.wait.result c.in_ok-push.ensures.items c.wait.ensures

@@ -13,7 +13,7 @@ ghost use Rattle.ath_automaton.specs.Configs.{stack_of, next_of, want_of};
 ghost use Rattle.ath_grammar.specs.Lists.{put_clauses};
 ghost use Rattle.ath_grammar.specs.Phrases.{clauses_at};
 
-use crate::answer::{clause, done, refuse, small, wait};
+use ath_forms::answer::{clause, done, refuse, small, wait};
 use ath_automaton::frame::{ClauseFrame, Clauses, PairFrame, PatternFrame, PhraseFrame};
 use ath_automaton::small::pattern;
 use ath_automaton::state::{ClauseState, PhraseState, SmallState};

@@ -5,9 +5,9 @@ ghost use Rattle.ath_grammar.specs.Tokens.{at};
 ghost use Rattle.ath_grammar.specs.Machine.{step};
 ghost use Rattle.ath_automaton.specs.Trees.{turned};
 ghost use Rattle.ath_automaton.specs.Configs.{stack_of, moved, clause_config};
-ghost use Rattle.ath_forms.specs.States.{is_check, is_else};
+ghost use Rattle.ath_clauses.specs.States.{is_check, is_else};
 
-use crate::answer::free;
+use ath_forms::answer::free;
 use crate::branch::Check;
 use crate::clause::Head;
 use crate::{branch, clause};

@@ -21,7 +21,7 @@ use Rattle.ath_automaton.specs.declared.tree.PatternTree.{PatternTree}
 use Rattle.ath_automaton.specs.declared.tree.PhraseTree.{PhraseTree}
 use Rattle.ath_automaton.specs.Trees.{phrase_of, pattern_of, clauses_back}
 use Rattle.ath_automaton.specs.Configs.{stack_of, next_of, moved, want_of, clause_config}
-use Rattle.ath_forms.specs.declared.clause.Head.{Head}
+use Rattle.ath_clauses.specs.declared.clause.Head.{Head}
 
 module _ (c : ClauseWord) (p : Pos) (e : PhraseTree) (w : Want) (read : List (PatternTree × PhraseTree)) (q : Pos) (t : Lexeme) (level : ℕ) (old last : List Frame) (h : Head) (r : Move) (n : Next) (made : r ≡ record { fits = true; next = n }) (is : h ≡ record { word = c; start = p; want = w; scrutinee = e }) where
   pub rows_step : (s : ClauseState) → s ≡ Rows c p e w read → next_of n last ≡ settle (clause_rows_rule h.word h.start (phrase_of h.scrutinee) (want_of h.want) (clauses_back no_clauses read) (at q t)) level (stack_of a_phrase old) → moved r last ≡ step (clause_config s level (λ k. stack_of k old)) (at q t)

@@ -1,0 +1,3 @@
+pub mod CheckLaws
+pub mod ClauseLaws
+pub mod StateLaws

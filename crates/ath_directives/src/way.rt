@@ -22,7 +22,7 @@ use sqlite_items::Items;
 use std::alloc::{AllocError, Global};
 
 /// A token behind a constructor.
-#[tactic(auto, using(crate::proofs::WayLaws::datatype_handed))]
+#[tactic(auto, using(crate::proofs::WayLaws::taken_by, crate::proofs::WayLaws::datatype_handed))]
 fn behind_constructor(
     level: u64,
     start: Pos,
@@ -38,14 +38,15 @@ fn behind_constructor(
 {
     if is_bar(token) {
         let next = after_constructor(level, start, name, params, read, pos, token, stack)?;
-        return Ok(Way::Takes(free(next)));
+        Ok(Way::Takes(free(next)))
+    } else {
+        let next = datatype_read(level, start, name, params, read);
+        Ok(Way::Hands(free(next)))
     }
-    let next = datatype_read(level, start, name, params, read);
-    Ok(Way::Hands(free(next)))
 }
 
 /// A token behind a name that is asserted, or names an assertion.
-#[tactic(auto, using(crate::proofs::WayLaws::assertion_handed))]
+#[tactic(auto, using(crate::proofs::WayLaws::taken_by, crate::proofs::WayLaws::assertion_handed))]
 fn behind_assert_name(
     level: u64,
     start: Pos,
@@ -61,10 +62,11 @@ fn behind_assert_name(
 {
     if is_becomes(token) {
         let next = assert_name(level, start, closed, name_pos, name, pos, token, stack)?;
-        return Ok(Way::Takes(free(next)));
+        Ok(Way::Takes(free(next)))
+    } else {
+        let next = name_asserted(level, start, closed, name_pos, name);
+        Ok(Way::Hands(free(next)))
     }
-    let next = name_asserted(level, start, closed, name_pos, name);
-    Ok(Way::Hands(free(next)))
 }
 
 /// A token in a state of a directive that looks before it takes.

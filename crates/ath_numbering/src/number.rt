@@ -369,3 +369,48 @@ fn number_branches(
     numbers.reverse();
     Ok(Items::from_vec(numbers))
 }
+
+#[cfg(test)]
+mod tests {
+    use super::*;
+    use std::test::Fail;
+
+    // The last part has the first number, and each part stands in its place.
+    #[test]
+    fn parts_have_numbers(rt: HostRuntime) -> Result<(), Fail> {
+        let alloc = rt.alloc();
+        let pos = Pos {
+            file: 0,
+            line: 1,
+            col: 1,
+        };
+        let mut parts = Items::new(alloc);
+        parts.push(PhraseTree::Name(pos, Sym(30)))?;
+        parts.push(PhraseTree::Name(pos, Sym(31)))?;
+        let mut phrases = Phrases::new(alloc);
+        let list = number_phrase(alloc, &mut phrases, PhraseTree::List(pos, parts))?;
+        assert_eq!(rt; list, PhraseId(2));
+        let form = &phrases.node(list).form;
+        assert!(rt; matches!(form, Form::List(numbers) if numbers.get(0) == Some(&PhraseId(1))));
+        Ok(())
+    }
+
+    // An application in an application, and so on.
+    #[test]
+    fn deep_phrases_have_numbers(rt: HostRuntime) -> Result<(), Fail> {
+        let alloc = rt.alloc();
+        let pos = Pos {
+            file: 0,
+            line: 1,
+            col: 1,
+        };
+        let mut tree = PhraseTree::Name(pos, Sym(30));
+        for _level in 0..1000 {
+            tree = PhraseTree::Apply(pos, Boxed::new(alloc, tree)?, Items::new(alloc));
+        }
+        let mut phrases = Phrases::new(alloc);
+        let number = number_phrase(alloc, &mut phrases, tree)?;
+        assert_eq!(rt; number, PhraseId(1000));
+        Ok(())
+    }
+}

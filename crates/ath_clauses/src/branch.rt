@@ -12,11 +12,11 @@ ghost use Rattle.ath_grammar.specs.Machine.{settle};
 ghost use Rattle.ath_automaton.specs.Trees.{turned, phrase_of, branches_back};
 ghost use Rattle.ath_automaton.specs.Configs.{stack_of, next_of, moved, want_of};
 
-use ath_forms::answer::{clause, done, free, refuse, wait};
-use ath_forms::phrase::phrase;
 use ath_automaton::frame::{BranchFrame, Branches, PairFrame, PhraseFrame};
 use ath_automaton::state::{ClauseState, PhraseState};
 use ath_automaton::{Frame, Move, Next, PhraseTree, Want};
+use ath_forms::answer::{clause, done, free, refuse, wait};
+use ath_forms::phrase::phrase;
 use ath_grammar::Lexeme;
 use ath_syntax::Pos;
 use sqlite_items::Items;

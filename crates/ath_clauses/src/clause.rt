@@ -13,11 +13,11 @@ ghost use Rattle.ath_automaton.specs.Configs.{stack_of, next_of, want_of};
 ghost use Rattle.ath_grammar.specs.Lists.{put_clauses};
 ghost use Rattle.ath_grammar.specs.Phrases.{clauses_at};
 
-use ath_forms::answer::{clause, done, refuse, small, wait};
 use ath_automaton::frame::{ClauseFrame, Clauses, PairFrame, PatternFrame, PhraseFrame};
 use ath_automaton::small::pattern;
 use ath_automaton::state::{ClauseState, PhraseState, SmallState};
 use ath_automaton::{Frame, Next, PatternTree, PhraseTree, Want};
+use ath_forms::answer::{clause, done, refuse, small, wait};
 use ath_grammar::{ClauseWord, Lexeme};
 use ath_syntax::Pos;
 use sqlite_items::{Boxed, Items};

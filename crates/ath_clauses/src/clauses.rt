@@ -7,12 +7,12 @@ ghost use Rattle.ath_automaton.specs.Trees.{turned};
 ghost use Rattle.ath_automaton.specs.Configs.{stack_of, moved, clause_config};
 ghost use Rattle.ath_clauses.specs.States.{is_check, is_else};
 
-use ath_forms::answer::free;
 use crate::branch::Check;
 use crate::clause::Head;
 use crate::{branch, clause};
 use ath_automaton::state::ClauseState;
 use ath_automaton::{Frame, Move};
+use ath_forms::answer::free;
 use ath_grammar::Lexeme;
 use ath_syntax::Pos;
 use std::alloc::{AllocError, Global};

@@ -10,9 +10,9 @@ ghost use Rattle.ath_forms.specs.Ways.{way_of, IsHanded};
 
 use crate::datatype::{after_constructor, datatype_read, is_bar};
 use crate::define::{assert_name, is_becomes, name_asserted};
+use ath_automaton::Frame;
 use ath_automaton::frame::Constructors;
 use ath_automaton::state::DirectiveState;
-use ath_automaton::Frame;
 use ath_forms::answer::free;
 use ath_forms::way::Way;
 use ath_grammar::Lexeme;

@@ -31,10 +31,12 @@ module _ (old : Cutting) (names : List (List ℕ)) (tree : read.DirectiveTree) (
   past_grows (a_fault kind byte) known from e = Grows-refl known
 
   pub found_wants : (s s' : syntax.Nodes) (e : SyntaxError) → e.kind ≡ Memory → syntax.Grows s s' → NumbersTree old names s (Err e) new names' s'
-  found_wants s s' e kind kept = let f = found.0 in
-      (ap (λ (c : Cutting). c.text) found.3, ap (λ (c : Cutting). c.file) found.3,
-       inl (record {
-         kind = kind;
-         names_kept = subst (Grows names) (sym found.2) (Grows-trans (reads_grow old.file old.text names old.at f.tokens f.known f.to f.read) (past_grows f.next f.known f.to f.comes));
-         phrases_kept = kept;
-       }))
+  found_wants s s' e kind kept = let f = found.0 in (
+    ap (λ (c : Cutting). c.text) found.3,
+    ap (λ (c : Cutting). c.file) found.3,
+    inl (record {
+      kind = kind;
+      names_kept = subst (Grows names) (sym found.2) (Grows-trans (reads_grow old.file old.text names old.at f.tokens f.known f.to f.read) (past_grows f.next f.known f.to f.comes));
+      phrases_kept = kept;
+    }),
+  )

@@ -61,9 +61,11 @@ pub token_ahead : (file : ℕ) (text : List ℕ) (names known : List (List ℕ))
     → (ahead file text names from ≡ a_token (at p lexeme) known end) × (from < end) × (end ≤ length text)
 token_ahead file text names known from start end l t p lexeme e k s q x within =
     let long = found_is_longest text from l start end within e in
-    let seen = subst (λ (o : Option Token). Tells known l o) s (tells known l) in
-    (ap (as_ahead file text names) e ∙ ap (λ (n : List (List ℕ)). a_token (at (place_of file text start) (seen_as n l)) n end) (sym k) ∙ ap (λ (y : grammar.Lexeme). a_token (at (place_of file text start) y) known end) (sym (x ∙ seen)) ∙ ap (λ (o : Pos). a_token (at o lexeme) known end) (sym q),
-     omega (arith, long.some, long.gap.up_to), long.within)
+    let seen = subst (λ (o : Option Token). Tells known l o) s (tells known l) in (
+      ap (as_ahead file text names) e ∙ ap (λ (n : List (List ℕ)). a_token (at (place_of file text start) (seen_as n l)) n end) (sym k) ∙ ap (λ (y : grammar.Lexeme). a_token (at (place_of file text start) y) known end) (sym (x ∙ seen)) ∙ ap (λ (o : Pos). a_token (at o lexeme) known end) (sym q),
+      omega (arith, long.some, long.gap.up_to),
+      long.within,
+    )
 
 pub end_ahead : (file : ℕ) (text : List ℕ) (names : List (List ℕ)) (from : ℕ) → next_of text from ≡ ended → ahead file text names from ≡ the_end
 end_ahead file text names from e = ap (as_ahead file text names) e

@@ -109,12 +109,18 @@ module _ (old : Cutting) (names : List (List ℕ)) (c : Cutting) (known : List (
 
   pub turned_whole : (seen : Seen) (new back : Cutting) (known' : List (List ℕ)) (d : read.DirectiveTree) → old.refused ≡ None → Looks c known (Ok seen) new known' → Turns new st seen (Ok (Whole d)) → back ≡ record new { at = c.at; refused = None } → ReadsTree old names (Ok (Some d)) back known'
   unfolding front
-  turned_whole (Token l p) new back known' d r looks takes b =
-      (front (a_token (at p l) known' new.at) looks.0, over_whole carried.tokens st carried.leads (at p l) known' new.at (directive_of d) takes, refl,
-       went_back new back (ap (λ (x : Cutting). x.text) looks.3 ∙ text_same) (ap (λ (x : Cutting). x.file) looks.3 ∙ file_same) r b)
-  turned_whole End new back known' d r looks lasts b =
-      (front the_end looks.0, end_whole carried.tokens st carried.leads (directive_of d) lasts, looks.1,
-       went_back new back (ap (λ (x : Cutting). x.text) looks.2 ∙ text_same) (ap (λ (x : Cutting). x.file) looks.2 ∙ file_same) r b)
+  turned_whole (Token l p) new back known' d r looks takes b = (
+    front (a_token (at p l) known' new.at) looks.0,
+    over_whole carried.tokens st carried.leads (at p l) known' new.at (directive_of d) takes,
+    refl,
+    went_back new back (ap (λ (x : Cutting). x.text) looks.3 ∙ text_same) (ap (λ (x : Cutting). x.file) looks.3 ∙ file_same) r b,
+  )
+  turned_whole End new back known' d r looks lasts b = (
+    front the_end looks.0,
+    end_whole carried.tokens st carried.leads (directive_of d) lasts,
+    looks.1,
+    went_back new back (ap (λ (x : Cutting). x.text) looks.2 ∙ text_same) (ap (λ (x : Cutting). x.file) looks.2 ∙ file_same) r b,
+  )
   turned_whole (Fault e) new back known' d r (n, f, p, k, t, x) lasts b =
       (front (a_fault e.kind n) f, fault_whole carried.tokens st carried.leads e.kind n (directive_of d) lasts, k, went_back new back (t ∙ text_same) (x ∙ file_same) r b)
 
@@ -132,32 +138,43 @@ module _ (old : Cutting) (names : List (List ℕ)) (c : Cutting) (known : List (
   refuses_token : (t : Placed) (new : Cutting) (known' : List (List ℕ)) (e : SyntaxError) → next_of c known ≡ a_token t known' new.at → new.text ≡ c.text → new.file ≡ c.file → e.pos ≡ place t → Rejects (step st t) e.kind → ReadsTree old names (Err e) new known'
   unfolding front
   refuses_token t new known' e a x f p h =
-      let r = rejects t known' new.at (step st t) e.kind refl h in
-      (x ∙ text_same, f ∙ file_same, inr (record {
-        front = front (a_token t known' new.at) a;
-        cut = r.0;
-        cause = subst (λ (o : Pos). Fails (reading_of old) carried.tokens (a_token t known' new.at) e.kind o) (sym p) r.1;
-        after = refl;
-      }))
+      let r = rejects t known' new.at (step st t) e.kind refl h in (
+        x ∙ text_same,
+        f ∙ file_same,
+        inr (record {
+          front = front (a_token t known' new.at) a;
+          cut = r.0;
+          cause = subst (λ (o : Pos). Fails (reading_of old) carried.tokens (a_token t known' new.at) e.kind o) (sym p) r.1;
+          after = refl;
+        }),
+      )
 
   -- the tokens end within a directive
   refuses_end : (new : Cutting) (e : SyntaxError) → next_of c known ≡ the_end → new.text ≡ c.text → new.file ≡ c.file → e ≡ record { kind = Unclosed; pos = place_of new.file new.text (length new.text) } → (carried.tokens ≡ [] → ⊥) → ((d : DirectiveTree) → at_end st ≡ finished true d → ⊥) → ReadsTree old names (Err e) new known
   unfolding front
-  refuses_end new e a x f same some n = (x ∙ text_same, f ∙ file_same, inr (record {
-        front = front the_end a;
-        cut = end_cut carried.tokens st carried.leads n;
-        cause = subst (λ (g : SyntaxError). Fails (reading_of old) carried.tokens the_end g.kind g.pos) (sym same) (some, grind (arith, x, f, text_same, file_same));
-        after = refl;
-      }))
+  refuses_end new e a x f same some n = (
+    x ∙ text_same,
+    f ∙ file_same,
+    inr (record {
+      front = front the_end a;
+      cut = end_cut carried.tokens st carried.leads n;
+      cause = subst (λ (g : SyntaxError). Fails (reading_of old) carried.tokens the_end g.kind g.pos) (sym same) (some, grind (arith, x, f, text_same, file_same));
+      after = refl;
+    }),
+  )
 
   refuses_fault : (new : Cutting) (e : SyntaxError) (g : LexError) (n : ℕ) → next_of c known ≡ a_fault g.kind n → new.text ≡ c.text → new.file ≡ c.file → g.pos ≡ place_of c.file c.text n → e ≡ record { kind = Lex g.kind; pos = g.pos } → ((d : DirectiveTree) → at_end st ≡ finished true d → ⊥) → ReadsTree old names (Err e) new known
   unfolding front
-  refuses_fault new e g n a x f p same k = (x ∙ text_same, f ∙ file_same, inr (record {
-        front = front (a_fault g.kind n) a;
-        cut = fault_cut carried.tokens st carried.leads g.kind n k;
-        cause = subst (λ (h : SyntaxError). Fails (reading_of old) carried.tokens (a_fault g.kind n) h.kind h.pos) (sym same) (refl, p ∙ grind (arith, text_same, file_same));
-        after = refl;
-      }))
+  refuses_fault new e g n a x f p same k = (
+    x ∙ text_same,
+    f ∙ file_same,
+    inr (record {
+      front = front (a_fault g.kind n) a;
+      cut = fault_cut carried.tokens st carried.leads g.kind n k;
+      cause = subst (λ (h : SyntaxError). Fails (reading_of old) carried.tokens (a_fault g.kind n) h.kind h.pos) (sym same) (refl, p ∙ grind (arith, text_same, file_same));
+      after = refl;
+    }),
+  )
 
   -- a refusal
   pub turned_err : (seen : Seen) (new : Cutting) (known' : List (List ℕ)) (e : SyntaxError) → Looks c known (Ok seen) new known' → (begun ≡ false → is_end seen ≡ false) → Turns new st seen (Err e) → ReadsTree old names (Err e) new known'

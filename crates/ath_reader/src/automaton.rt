@@ -69,12 +69,7 @@ impl Automaton {
     }
 
     /// Takes a token.
-    pub(crate) fn step(
-        self,
-        alloc: Global,
-        pos: Pos,
-        token: &Lexeme,
-    ) -> Result<Reply, AllocError>
+    pub(crate) fn step(self, alloc: Global, pos: Pos, token: &Lexeme) -> Result<Reply, AllocError>
         requires { level_of (standing_of self) ≤ 500 }
         ensures { IfOk result (λ r. outcome_of r ≡ step (standing_of self) (at pos token.now)) }
     {

@@ -149,13 +149,7 @@ pub(crate) enum Taken {
     Whole(DirectiveTree),
 }
 
-
-fn take(
-    alloc: Global,
-    automaton: Automaton,
-    pos: Pos,
-    token: &Lexeme,
-) -> Result<Taken, SyntaxError>
+fn take(alloc: Global, automaton: Automaton, pos: Pos, token: &Lexeme) -> Result<Taken, SyntaxError>
     requires { level_of (standing_of automaton) ≤ 500 }
     ensures { Takes (standing_of automaton) (at pos token.now) result }
 {

@@ -50,7 +50,11 @@ fn kind(alloc: Global, directive: &Directive, phrases: &Phrases) -> Result<Strin
         }
         What::Define(_, _) => String::from_str(alloc, "define")?,
         What::DefineFun(_, params, _) => format!(in alloc; "define/{}", params.len())?,
-        What::Assert(name, closed, _) => format!(in alloc; "assert {} {}", name.is_some(), *closed)?,
+        What::Assert(name, closed, _) => format!(in alloc;
+            "assert {} {}",
+            name.is_some(),
+            *closed
+        )?,
         What::Load(_) => String::from_str(alloc, "load")?,
         What::Phrase(phrase) => {
             let node = phrases.node(*phrase);
@@ -82,7 +86,10 @@ fn listing(alloc: Global, text: &[u8]) -> Result<String, Fail> {
             Err(error) => {
                 let again = reader.directive(alloc, &mut names, &mut phrases, &operators);
                 let same = again.err() == Some(error);
-                let line = format!(in alloc; "{:?} {}:{} {}", error.kind, error.pos.line, error.pos.col, same)?;
+                let line = format!(in alloc;
+                    "{:?} {}:{} {}",
+                    error.kind, error.pos.line, error.pos.col, same
+                )?;
                 lines.push_str(line.as_str())?;
                 return Ok(lines);
             }
@@ -103,7 +110,10 @@ fn both_spellings_of_phrases(rt: HostRuntime) -> Result<(), Fail> {
         ("\"text\"", "string; end"),
         ("[] [x [\"a\"]]", "list; list; end"),
         ("(x : (List N))", "ascribe; end"),
-        ("(x) (f x y) (= x y) (& x y)", "apply; apply; apply; apply; end"),
+        (
+            "(x) (f x y) (= x y) (& x y)",
+            "apply; apply; apply; apply; end",
+        ),
         ("((f x)) ([x])", "apply; list; end"),
         ("(!f) (!f x (!g x))", "!call; !call; end"),
         ("lambda () x (lambda (x _ _) x)", "lambda; lambda; end"),
@@ -111,11 +121,20 @@ fn both_spellings_of_phrases(rt: HostRuntime) -> Result<(), Fail> {
         ("let ((x y) (z (f x))) z", "let; end"),
         ("(let { x := y ; z := (!f) } (!g))", "!let; end"),
         ("dlet ((x y)) (!f)", "!let; end"),
-        ("letrec ((f (lambda () x)) (g ((method () (!f))))) f", "letrec; end"),
-        ("letrec { f := lambda () g; g := lambda () f } (!f)", "!letrec; end"),
+        (
+            "letrec ((f (lambda () x)) (g ((method () (!f))))) f",
+            "letrec; end",
+        ),
+        (
+            "letrec { f := lambda () g; g := lambda () f } (!f)",
+            "!letrec; end",
+        ),
         ("(match x (y z) (_ z))", "match; end"),
         ("match x { y => z | [a (f b)] => z }", "match; end"),
-        ("match x { (list-of a b) => y | (some-term c) => y | \"s\" => y }", "match; end"),
+        (
+            "match x { (list-of a b) => y | (some-term c) => y | \"s\" => y }",
+            "match; end",
+        ),
         ("(dmatch x { y => (!f) })", "!match; end"),
         ("(check (x y) (z y))", "check; end"),
         ("(check (x y) (else y))", "check-else; end"),
@@ -133,9 +152,15 @@ fn both_spellings_of_phrases(rt: HostRuntime) -> Result<(), Fail> {
         ("(pick-witness x y (!f))", "!pick-witness; end"),
         ("pick-witness x (!g) (!f)", "!pick-witness; end"),
         ("(by-induction x (zero (!f)) ((S n) (!f)))", "!induct; end"),
-        ("by-induction x { zero => (!f) | (S n) => (!f) }", "!induct; end"),
+        (
+            "by-induction x { zero => (!f) | (S n) => (!f) }",
+            "!induct; end",
+        ),
         ("(datatype-cases x (zero (!f)))", "!cases; end"),
-        ("datatype-cases x { zero => (!f) | (S _) => (!f) }", "!cases; end"),
+        (
+            "datatype-cases x { zero => (!f) | (S _) => (!f) }",
+            "!cases; end",
+        ),
         ("conclude x (!f)", "!conclude; end"),
         ("conclude h := x (!f)", "!conclude-named; end"),
         ("# nothing\n", "end"),
@@ -151,17 +176,41 @@ fn both_spellings_of_directives(rt: HostRuntime) -> Result<(), Fail> {
     let alloc = rt.alloc();
     let rows: [(&str, &str); 16] = [
         ("(domain N) domain N", "domain/0; domain/0; end"),
-        ("(domain (M 'S 'T)) domain (M 'S)", "domain/2; domain/1; end"),
+        (
+            "(domain (M 'S 'T)) domain (M 'S)",
+            "domain/2; domain/1; end",
+        ),
         ("(datatype N zero (S N))", "datatype/0/2; end"),
-        ("datatype (List 'T) := nil | (cons 'T (List 'T)) x", "datatype/1/2; name; end"),
-        ("(declare f N) (declare (f g) (-> (N N) N))", "declare/1/0; declare/2/2; end"),
+        (
+            "datatype (List 'T) := nil | (cons 'T (List 'T)) x",
+            "datatype/1/2; name; end",
+        ),
+        (
+            "(declare f N) (declare (f g) (-> (N N) N))",
+            "declare/1/0; declare/2/2; end",
+        ),
         ("(declare f ('T) (-> ('T) N))", "declare/1/1+; end"),
-        ("declare f, g: N declare f: [N N] -> N", "declare/2/0; declare/1/2; end"),
-        ("declare f: ('T) [(List 'T)] -> N declare c: () N", "declare/1/1+; declare/1/0+; end"),
+        (
+            "declare f, g: N declare f: [N N] -> N",
+            "declare/2/0; declare/1/2; end",
+        ),
+        (
+            "declare f: ('T) [(List 'T)] -> N declare c: () N",
+            "declare/1/1+; declare/1/0+; end",
+        ),
         ("(define x y) define x := (!f)", "define; define; end"),
-        ("(define (f x _) y) define (f) := y", "define/2; define/0; end"),
-        ("(assert x) (assert* x)", "assert false false; assert false true; end"),
-        ("assert x assert* x assert h := x", "assert false false; assert false true; assert true false; end"),
+        (
+            "(define (f x _) y) define (f) := y",
+            "define/2; define/0; end",
+        ),
+        (
+            "(assert x) (assert* x)",
+            "assert false false; assert false true; end",
+        ),
+        (
+            "assert x assert* x assert h := x",
+            "assert false false; assert false true; assert true false; end",
+        ),
         ("assert* h := (f x)", "assert true true; end"),
         ("(load \"f\") load \"f\"", "load; load; end"),
         ("assert ?x x", "assert false false; name; end"),
@@ -177,9 +226,18 @@ fn both_spellings_of_directives(rt: HostRuntime) -> Result<(), Fail> {
 fn refusals_and_places(rt: HostRuntime) -> Result<(), Fail> {
     let alloc = rt.alloc();
     let rows: [(&[u8], &str); 56] = [
-        (b"(declare A Boolean)\n\x22\xC3", "declare/1/0; Lex(BadUtf8) 2:2 true"),
-        (b"(declare A Boolean)\n(assert A))\nA", "declare/1/0; assert false false; Unexpected 2:11 true"),
-        (b"(declare A Boolean)\n(and (!claim A) A)", "declare/1/0; KindMix 2:7 true"),
+        (
+            b"(declare A Boolean)\n\x22\xC3",
+            "declare/1/0; Lex(BadUtf8) 2:2 true",
+        ),
+        (
+            b"(declare A Boolean)\n(assert A))\nA",
+            "declare/1/0; assert false false; Unexpected 2:11 true",
+        ),
+        (
+            b"(declare A Boolean)\n(and (!claim A) A)",
+            "declare/1/0; KindMix 2:7 true",
+        ),
         (b"(A = A)", "Unexpected 1:4 true"),
         (b"[A (!claim A)]", "KindMix 1:5 true"),
         (b"(assume A A)", "KindMix 1:11 true"),
@@ -213,7 +271,10 @@ fn refusals_and_places(rt: HostRuntime) -> Result<(), Fail> {
         (b"(check (else A))", "Unexpected 1:9 true"),
         (b"lambda (x x) x", "Unexpected 1:11 true"),
         (b"lambda (M.x) x", "Unexpected 1:9 true"),
-        (b"letrec ((f (lambda () x)) (f (lambda () x))) x", "Unexpected 1:28 true"),
+        (
+            b"letrec ((f (lambda () x)) (f (lambda () x))) x",
+            "Unexpected 1:28 true",
+        ),
         (b"letrec ((f x)) x", "Unexpected 1:12 true"),
         (b"(lambda (x) x true)", "Unexpected 1:15 true"),
         (b"assume M.x := p (!f)", "Unexpected 1:12 true"),
@@ -255,8 +316,14 @@ fn nested(alloc: Global, opens: u64) -> Result<String, Fail> {
 #[test]
 fn levels_end_at_500(rt: HostRuntime) -> Result<(), Fail> {
     let alloc = rt.alloc();
-    assert_eq!(rt; listing(alloc, nested(alloc, 500)?.as_bytes())?.as_str(), "apply; end");
-    assert_eq!(rt; listing(alloc, nested(alloc, 501)?.as_bytes())?.as_str(), "TooDeep 1:1501 true");
+    assert_eq!(rt;
+        listing(alloc, nested(alloc, 500)?.as_bytes())?.as_str(),
+        "apply; end"
+    );
+    assert_eq!(rt;
+        listing(alloc, nested(alloc, 501)?.as_bytes())?.as_str(),
+        "TooDeep 1:1501 true"
+    );
     Ok(())
 }
 

@@ -18,16 +18,16 @@ returns-in_err-seen c =
     let e = c.in_err-seen.ensures in
     subst (λ (r : Result (Option DirectiveTree) SyntaxError). ReadsTree old c.args.names.now r c.look.new.tokens c.look.new.names) {x = Err c.in_err-seen.field-0.0} (search rules)
     (turned_wants old c.args.names.now c.loop-seen.tokens c.loop-seen.names (standing_of c.loop-seen.automaton) c.loop-seen.begun c.loop-seen.invariant c.look.new.tokens c.look.new.names c.in_err-seen.field-0.0
-      e.1 (e.2 ∙ ap (λ d. d.text) c.loop-seen.invariant.same) (e.3 ∙ ap (λ d. d.file) c.loop-seen.invariant.same) e.0)
+    e.1 (e.2 ∙ ap (λ d. d.text) c.loop-seen.invariant.same) (e.3 ∙ ap (λ d. d.file) c.loop-seen.invariant.same) e.0)
 
 pub returns-in_err-next : goal.returns-in_err-next
 returns-in_err-next c =
     let old = c.args.tokens.now in
     subst (λ (r : Result (Option DirectiveTree) SyntaxError). ReadsTree old c.args.names.now r c.look.new.tokens c.look.new.names) {x = Err c.in_err-next.field-0.0} (search rules)
     (turned_err old c.args.names.now c.loop-seen.tokens c.loop-seen.names (standing_of c.loop-seen.automaton) c.loop-seen.begun c.loop-seen.invariant c.in_ok-seen.seen c.look.new.tokens c.look.new.names c.in_err-next.field-0.0
-      c.in_ok-seen.ensures
-      (λ b. elim c.else-not-begun.branch [ else-not-begun-via-then-not-begun+else-is_end w ↦ sym w.is_end.ensures ∙ w.if-is_end.false | else-not-begun-via-else-not-begun w ↦ grind (rules, b, w.if-not-begun.false) ])
-      c.in_err-next.ensures)
+    c.in_ok-seen.ensures
+    (λ b. elim c.else-not-begun.branch [ else-not-begun-via-then-not-begun+else-is_end w ↦ sym w.is_end.ensures ∙ w.if-is_end.false | else-not-begun-via-else-not-begun w ↦ grind (rules, b, w.if-not-begun.false) ])
+    c.in_err-next.ensures)
 
 pub returns-in-Whole : goal.returns-in-Whole
 returns-in-Whole c =

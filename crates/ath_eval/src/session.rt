@@ -9,9 +9,9 @@ ghost use Rattle.ath_eval.specs.Stands.{state_of, event_of, AreIn, AreShort, IsS
 
 use crate::event::{Event, Fault};
 use crate::value::{Answer, Found, detach, value};
-use ath_names::{NameError, Names};
 use ath_first_reader::script::{Directive, Expr, What};
 use ath_first_reader::text::Text;
+use ath_names::{NameError, Names};
 use ath_sorts::Sym;
 use ath_syntax::Pos;
 use ath_terms::{SentId, Store};

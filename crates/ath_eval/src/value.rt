@@ -10,9 +10,9 @@ ghost use Rattle.ath_eval.specs.Eval.{is_constant, look_up, value_of, holds, mod
 ghost use Rattle.ath_eval.specs.Stands.{sents_of, AreIn, AreParts, IsValue, IsVerdict};
 
 use crate::event::Fault;
-use ath_names::Names;
 use ath_first_reader::script::Expr;
 use ath_first_reader::text::Text;
+use ath_names::Names;
 use ath_sorts::Sym;
 use ath_syntax::Pos;
 use ath_terms::equality::is_same_sent;

@@ -75,7 +75,7 @@ module _ (n : ℕ) (ks : Stack a_phrase) (o : Pos) (t : Lexeme) where
     pub sorted_handed : is_name t ≡ false → then_step (at o t) (settle (pick_body p bs) n ks) ≡ step (lingers n (after_sorted p bs) (pick_body p bs) ks) (at o t)
     sorted_handed e = sym (hands n (after_sorted p bs) (pick_body p bs) ks (at o t) (pick_body p bs) (sorted_then_body p bs o t e))
 
-var_again : (p : Pos) (x : Sym) (i : ℕ) → phrase_of (Var p x i None) ≡ variable_at p x i None
+pub var_again : (p : Pos) (x : Sym) (i : ℕ) → phrase_of (Var p x i None) ≡ variable_at p x i None
 var_again p x i = ap phrase_of (sym (rolls-Var p x i None)) ∙ fold-roll-PhraseTree Phrase phrase_step (one.Var p x i None)
 
 module _ (n : ℕ) (o : Pos) (t : Lexeme) (p : Pos) (x : Sym) (i : ℕ) (fs : List Frame) where

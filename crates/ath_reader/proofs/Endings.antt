@@ -1,7 +1,15 @@
 -- The end of the text makes of a state what it makes of the outcome that the state hands on.
-use Rattle.std.proofs.Common.{◌≡◌, ℕ, suc, ◌-◌, List, Bool, true, false, not, refl, sym, ap, ◌∙◌}
+use Rattle.std.proofs.Common.{◌≡◌, ℕ, suc, ◌-◌, List, [], Bool, true, false, Option, None, not, refl, sym, ap, ◌∙◌}
+use Rattle.ath_sorts.specs.declared.sorts.Sym.{Sym}
+use Rattle.ath_syntax.specs.declared.place.Pos.{Pos}
+use Rattle.ath_syntax.specs.declared.node.SortText.{SortText}
+use Rattle.ath_syntax.specs.Tree.{Phrase, directive_at, datatype_is, name_at, variable_at}
+use Rattle.ath_grammar.specs.Lists.{put}
 use Rattle.ath_grammar.specs.Tokens.{Placed}
-use Rattle.ath_grammar.specs.Rules.{Kind, Value, Rule, done, refuse, token, peek, goto, push, check, deeper, shallower}
+use Rattle.ath_grammar.specs.Rules.{Kind, a_phrase, a_directive, Constructor, Value, Rule, done, refuse, token, peek, goto, push, check, deeper, shallower}
+use Rattle.ath_grammar.specs.PhraseRules.{after_var, after_name, pick_last}
+use Rattle.ath_grammar.specs.DirectiveRules.{after_constructor, assert_becomes, asserted}
+use Rattle.ath_grammar.proofs.Handed.{also_true}
 use Rattle.ath_grammar.specs.Machine.{Stack, bottom, frame, Config, whole, lingers, Outcome, no, on, over, both, also, settled, deliver, settle, Ending, unfinished, finished, also_ends, ended, last_of, at_end}
 use Rattle.ath_automaton.specs.declared.deliver.Settled.{Settled}
 use Rattle.ath_automaton.specs.declared.deliver.Settled.TheVariants as settled
@@ -9,16 +17,23 @@ use Rattle.ath_automaton.specs.declared.frame.Frame.{Frame}
 use Rattle.ath_automaton.specs.declared.state.PhraseState.{PhraseState}
 use Rattle.ath_automaton.specs.declared.state.PhraseState.TheVariants as ps
 use Rattle.ath_automaton.specs.declared.state.ClauseState.{ClauseState}
+use Rattle.ath_automaton.specs.declared.state.ClauseState.TheVariants as cs
 use Rattle.ath_automaton.specs.declared.state.SmallState.{SmallState}
+use Rattle.ath_automaton.specs.declared.state.SmallState.TheVariants as sm
 use Rattle.ath_automaton.specs.declared.state.DirectiveState.{DirectiveState}
 use Rattle.ath_automaton.specs.declared.state.DirectiveState.TheVariants as ds
 use Rattle.ath_automaton.specs.declared.state.State.{State}
 use Rattle.ath_automaton.specs.declared.state.State.TheVariants as st
+use Rattle.ath_automaton.specs.declared.state.Move.{Move}
+use Rattle.ath_automaton.specs.declared.state.Next.{Next}
+use Rattle.ath_automaton.specs.declared.state.Turn.TheVariants as turn
 use Rattle.ath_automaton.specs.declared.tree.DirectiveTree.{DirectiveTree}
+use Rattle.ath_automaton.specs.declared.tree.PhraseTree.{Var}
 use Rattle.ath_automaton.specs.Calm.{lingers_in, phrase_lingers, directive_lingers}
-use Rattle.ath_automaton.specs.Configs.{Below, config_of, phrase_config, clause_config, small_config, directive_config, stack_of}
+use Rattle.ath_automaton.specs.Configs.{Below, config_of, phrase_config, clause_config, small_config, directive_config, moved, next_of, stack_of}
 use Rattle.ath_automaton.specs.Landings.{settled_of, is_quiet}
-use Rattle.ath_automaton.specs.Trees.{directive_of}
+use Rattle.ath_automaton.specs.Trees.{back, directive_of}
+use Rattle.ath_forms.proofs.WayLaws.{var_again}
 use Rattle.ath_reader.specs.Automata.{end_of}
 
 also_ends_true : (o : Ending) → also_ends true o ≡ o
@@ -61,6 +76,30 @@ pub rests : {k : Kind} (n : ℕ) (f : Placed → Rule k) (q : Rule k) (ks : Stac
 unfolding Ends
 rests n f q ks o e = ended_settled q n ks (last_delivered ks) ∙ ap end_of (sym e)
 
+rests_move : {k : Kind} (n : ℕ) (f : Placed → Rule k) (q : Rule k) (ks : Stack k) (a : Move) (r : Next) (fs : List Frame) → a ≡ record { fits = true; next = r } → next_of r fs ≡ settle q n ks → at_end (lingers n f q ks) ≡ end_of (moved a fs)
+rests_move n f q ks a r fs e g = rests n f q ks (moved a fs) (ap (λ (b : Move). moved b fs) e ∙ also_true (next_of r fs) ∙ g)
+
+module _ (n : ℕ) (fs : List Frame) (a : Move) (r : Next) (made : a ≡ record { fits = true; next = r }) where
+  pub var_ends : (w : PhraseState) (p : Pos) (x : Sym) (i : ℕ) → w ≡ ps.AfterVar p x i → r ≡ record { level = n; turn = turn.Phrase (Var p x i None) } → at_end (phrase_config w n (λ k. stack_of k fs)) ≡ end_of (moved a fs)
+  var_ends w p x i e g =
+      ap (λ (v : PhraseState). at_end (phrase_config v n (λ k. stack_of k fs))) e
+      ∙ rests_move n (after_var p x i) (done (variable_at p x i None)) (stack_of a_phrase fs) a r fs made (ap (λ (b : Next). next_of b fs) g ∙ ap (λ (v : Phrase). deliver (stack_of a_phrase fs) v n) (var_again p x i))
+
+  pub datatype_ends : (w : DirectiveState) (p : Pos) (m : Sym) (vs : List Sym) (cs : List Constructor) → w ≡ ds.AfterConstructor p m vs cs → next_of r fs ≡ settle (done (directive_at p (datatype_is m vs (put (back cs) [])))) n (stack_of a_directive fs) → at_end (directive_config w n (λ k. stack_of k fs)) ≡ end_of (moved a fs)
+  datatype_ends w p m vs cs e g =
+      ap (λ (v : DirectiveState). at_end (directive_config v n (λ k. stack_of k fs))) e
+      ∙ rests_move n (after_constructor p (m, vs) (back cs)) (done (directive_at p (datatype_is m vs (put (back cs) [])))) (stack_of a_directive fs) a r fs made g
+
+  pub assertion_ends : (w : DirectiveState) (p : Pos) (closed : Bool) (q : Pos) (m : Sym) → w ≡ ds.AssertName p closed q m → next_of r fs ≡ settle (asserted false p closed None (name_at q m)) n (stack_of a_directive fs) → at_end (directive_config w n (λ k. stack_of k fs)) ≡ end_of (moved a fs)
+  assertion_ends w p closed q m e g =
+      ap (λ (v : DirectiveState). at_end (directive_config v n (λ k. stack_of k fs))) e
+      ∙ rests_move n (assert_becomes p closed q m) (asserted false p closed None (name_at q m)) (stack_of a_directive fs) a r fs made g
+
+pub last_ends : (n : ℕ) (old new : List Frame) (a : Move) (w : PhraseState) (p : Pos) (bs : List (Sym × Option SortText)) (q : Pos) (x : Sym) → w ≡ ps.AfterName p bs q x → moved a new ≡ settle (pick_last p (back bs) q x) n (stack_of a_phrase old) → at_end (phrase_config w n (λ k. stack_of k old)) ≡ end_of (moved a new)
+last_ends n old new a w p bs q x e g =
+    ap (λ (v : PhraseState). at_end (phrase_config v n (λ k. stack_of k old))) e
+    ∙ rests n (after_name p (back bs) q x) (pick_last p (back bs) q x) (stack_of a_phrase old) (moved a new) g
+
 -- the other states wait for a token
 phrase_waits : (w : PhraseState) (n : ℕ) (ks : Below) → phrase_lingers w ≡ false → at_end (phrase_config w n ks) ≡ unfinished
 phrase_waits (ps.AfterVar p v k) n ks h = cc
@@ -70,10 +109,38 @@ phrase_waits (ps.AfterSorted p bs) n ks h = cc
 phrase_waits w n ks h = refl
 
 clause_waits : (w : ClauseState) (n : ℕ) (ks : Below) → at_end (clause_config w n ks) ≡ unfinished
-clause_waits w n ks = cc
+clause_waits (cs.Open a b c d) n ks = refl
+clause_waits (cs.Inside a b c d) n ks = refl
+clause_waits (cs.Close a b c d e) n ks = refl
+clause_waits (cs.Pairs a b c d e) n ks = refl
+clause_waits (cs.Rows a b c d e) n ks = refl
+clause_waits (cs.Arrow a b c d e f) n ks = refl
+clause_waits (cs.More a b c d e) n ks = refl
+clause_waits (cs.CheckOpen a b) n ks = refl
+clause_waits (cs.CheckInside a b) n ks = refl
+clause_waits (cs.BranchClose a b c) n ks = refl
+clause_waits (cs.BranchPairs a b c) n ks = refl
+clause_waits (cs.BranchInside a b c d) n ks = refl
+clause_waits (cs.BranchRows a b c d) n ks = refl
+clause_waits (cs.BranchArrow a b c d) n ks = refl
+clause_waits (cs.BranchMore a b c) n ks = refl
+clause_waits (cs.ElseClose a) n ks = refl
+clause_waits (cs.ElseArrow a b c) n ks = refl
+clause_waits (cs.ElseBrace a) n ks = refl
 
 small_waits : (w : SmallState) (n : ℕ) (ks : Below) → at_end (small_config w n ks) ≡ unfinished
-small_waits w n ks = cc
+small_waits (sm.Parts a b c) n ks = refl
+small_waits (sm.Tail a b c) n ks = refl
+small_waits sm.Sort n ks = refl
+small_waits sm.SortName n ks = refl
+small_waits (sm.Sorts a b) n ks = refl
+small_waits sm.Pattern n ks = refl
+small_waits sm.PatternInside n ks = refl
+small_waits (sm.SomeName a) n ks = refl
+small_waits (sm.PatternClose a) n ks = refl
+small_waits (sm.Patterns a b) n ks = refl
+small_waits (sm.Params a) n ks = refl
+small_waits (sm.Vars a) n ks = refl
 
 directive_waits : (w : DirectiveState) (n : ℕ) (ks : Below) → directive_lingers w ≡ false → at_end (directive_config w n ks) ≡ unfinished
 directive_waits (ds.AfterConstructor p m vs cs) n ks h = cc

@@ -187,7 +187,7 @@ fn lingering_way(
     match state {
         State::Phrase(state) => phrase_way(alloc, level, state, pos, token, stack),
         State::Directive(state) => directive_way(level, state, pos, token, stack),
-        _ => unreachable!(),
+        _other => unreachable!(),
     }
 }
 

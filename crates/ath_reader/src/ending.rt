@@ -2,7 +2,7 @@
 
 ghost use Rattle.std.specs.Prelude.{◌≡◌, IfOk, [], true};
 ghost use Rattle.ath_grammar.specs.Machine.{at_end};
-ghost use Rattle.ath_automaton.specs.Calm.{is_calm, phrase_lingers, directive_lingers};
+ghost use Rattle.ath_automaton.specs.Calm.{is_calm, lingers_in, phrase_lingers, directive_lingers};
 ghost use Rattle.ath_automaton.specs.Configs.{stack_of, config_of, phrase_config, directive_config, moved};
 ghost use Rattle.ath_automaton.specs.Trees.{turned};
 ghost use Rattle.ath_reader.specs.Automata.{ending_of, end_of, Rests};
@@ -51,15 +51,29 @@ fn rest(
 ) -> Result<Option<Move>, AllocError>
     ensures { IfOk result (λ o. Rests o (turned [] stack.new.items) (config_of state level (λ k. stack_of k (turned [] stack.old.items)))) }
 {
-    if !lingers(&state) {
-        return Ok(None);
+    if lingers(&state) {
+        let answer = lingering_rest(alloc, level, state, stack)?;
+        Ok(Some(answer))
+    } else {
+        Ok(None)
     }
-    let answer = match state {
-        State::Phrase(state) => phrase_rest(alloc, level, state, stack)?,
-        State::Directive(state) => directive_rest(level, state, stack),
-        _ => unreachable!(),
-    };
-    Ok(Some(answer))
+}
+
+fn lingering_rest(
+    alloc: Global,
+    level: u64,
+    state: State,
+    stack: &mut Vec<Frame>,
+) -> Result<Move, AllocError>
+    requires { lingers_in state ≡ true }
+    ensures end { IfOk result (λ m. at_end (config_of state level (λ k. stack_of k (turned [] stack.old.items))) ≡ end_of (moved m (turned [] stack.new.items))) }
+    ensures calm { IfOk result (λ m. is_calm m.next.turn ≡ true) }
+{
+    match state {
+        State::Phrase(state) => phrase_rest(alloc, level, state, stack),
+        State::Directive(state) => Ok(directive_rest(level, state, stack)),
+        _other => unreachable!(),
+    }
 }
 
 #[tactic(auto, using(crate::proofs::Endings::rests))]
@@ -83,7 +97,8 @@ fn phrase_rest(
             Ok(free(next))
         }
         PhraseState::AfterName(place, read, name_pos, name) => {
-            pick_last(alloc, level, place, read, name_pos, name, stack)
+            let answer = pick_last(alloc, level, place, read, name_pos, name, stack)?;
+            Ok(answer)
         }
         PhraseState::AfterSorted(place, read) => {
             let next = pick_body(level, place, read, stack)?;
@@ -94,9 +109,9 @@ fn phrase_rest(
 }
 
 #[tactic(auto, using(crate::proofs::Endings::rests))]
-fn directive_rest(level: u64, state: DirectiveState, stack: &Vec<Frame>) -> Move
+fn directive_rest(level: u64, state: DirectiveState, stack: &mut Vec<Frame>) -> Move
     requires { directive_lingers state ≡ true }
-    ensures end { at_end (directive_config state level (λ k. stack_of k (turned [] stack.now.items))) ≡ end_of (moved result (turned [] stack.now.items)) }
+    ensures end { at_end (directive_config state level (λ k. stack_of k (turned [] stack.old.items))) ≡ end_of (moved result (turned [] stack.new.items)) }
     ensures calm { is_calm result.next.turn ≡ true }
 {
     match state {

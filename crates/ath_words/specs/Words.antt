@@ -1,4 +1,6 @@
--- The words of the command line, and the run that they spell.
+-- The words of the command line, and the run that they spell. A run is one file or more, and the
+-- option `--fuel N` or `--fuel=N` once at most, anywhere before a `--`. Every word after a `--` is a
+-- file. Another word that begins with `-` is refused, but `-` itself is a file.
 use Rattle.std.specs.Prelude.{◌==◌, ◌&&◌, ◌||◌, ℕ, Bool, false, not, List, [], ◌∷◌, Option, Some, None, length, take, drop, map, is_some, option_map, option_and_then, codes, if◌then◌else◌, nat_le}
 use Rattle.std.specs.Str.{bytes_eq, all_ascii_digits}
 use Rattle.std.specs.Str.Parse.{digits_value}
@@ -48,8 +50,9 @@ Said = Option (List ℕ) × List (List ℕ)
 abbrev pub with_file : List ℕ → Said → Said
 with_file file said = (said.0, file ∷ said.1)
 
--- what the words say, after words that gave `--fuel` the text `given`, or none; there is nothing
--- that they say where one of them is refused
+-- what the words say, after words that gave `--fuel` the text `given`, or none; it is nothing where
+-- one of them is refused, as every option is that follows a `--fuel`. The word after `--fuel` is its
+-- text, whatever it is
 abbrev pub said_by : Due → Option (List ℕ) → List (List ℕ) → Option Said
 said_by any given [] = Some (given, [])
 said_by any given (word ∷ words) =

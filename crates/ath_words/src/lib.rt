@@ -1,4 +1,4 @@
-//! The words of the command line.
+//! The words of the command line: `[--fuel N] FILE..`, with the options anywhere before a `--`.
 #![tactic(auto)]
 
 mod fuel;
@@ -12,17 +12,17 @@ ghost use Rattle.ath_words.specs.Words.{asked_by, asked_of, fuel_of, run_of};
 
 use crate::fuel::fuel;
 use clap::error::ErrorKind;
-use clap::{Arg, ArgAction, ArgMatches, Command, Error};
+use clap::{Arg, ArgAction, ArgMatches, Command};
 use std::alloc::{AllocError, Global};
 
-/// What the words ask for.
+/// What the words ask for: the fuel, and one file or more in the order of the words.
 #[derive(Drop)]
 pub struct Run<'a> {
     pub fuel: u64,
     pub files: Vec<&'a str>,
 }
 
-/// The command: `--fuel` with a number, and files.
+/// The command: `--fuel` with a text, at most once, and files. There is no help and no version.
 fn athena<'a>(alloc: Global) -> Result<Command<'a>, AllocError>
     ensures { IfOk result (λ command. app_of command ≡ athena) }
 {
@@ -35,7 +35,8 @@ fn athena<'a>(alloc: Global) -> Result<Command<'a>, AllocError>
         .arg(file)
 }
 
-/// The run that the words of the command line, without the program's name, spell.
+/// The run that the words spell, which come without the program's name; none where they spell none. An option that isn't
+/// known is refused whatever follows it, and `--generate` isn't known yet.
 pub fn read_words<'a>(alloc: Global, words: &'a [String]) -> Result<Option<Run<'a>>, AllocError>
     ensures { IfOk result (λ run. option_map asked_of run ≡ run_of (map string_bytes words.entry.now)) }
 {

@@ -1,0 +1,5 @@
+mod Command
+pub mod Numbers
+pub mod Readings
+mod Rows
+mod WordKinds

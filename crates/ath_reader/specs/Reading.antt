@@ -31,16 +31,16 @@ pub record Reading : Type 0 where
   pub file : ℕ
   pub progress : Progress
 
--- How many levels are open behind these tokens: one for each bracket, and for each keyword form without its own pair of
--- parentheses up to its end.
+-- How many levels are open behind tokens that begin a directive: one for each bracket, and for each keyword form without
+-- its own pair of parentheses up to its end.
 abbrev pub depth : List Placed → ℕ
 depth ts = elim (read_on true (Some beginning) ts) [ Some st ↦ level_of st | None ↦ 0 ]
 
--- no more than 500 levels are open behind any number of the first of them
+-- no more than 500 levels are open behind each front of them
 abbrev pub Shallow : List Placed → Type 0
 Shallow ts = (n : ℕ) → depth (take n ts) ≤ 500
 
--- the next tokens of a text, as far as they begin a directive, and what comes next behind them
+-- some of the next tokens of a text, which begin a directive, and what comes next behind them
 pub record Front (r : Reading) (names : List (List ℕ)) (from : ℕ) : Type 0 where
   pub tokens : List Placed
   pub known : List (List ℕ)

@@ -41,8 +41,8 @@ pub enum SyntaxKind {
     Memory,
 }
 
-/// A refusal and its place: the first token with which the text begins no directive, the byte of a lexical fault, or the
-/// end of the text.
+/// A refusal and its place: the byte of a lexical fault; the first token with which the text begins no directive; the
+/// bracket or keyword that opens level 501; or the end of the text.
 #[derive(Clone, Copy, Debug, PartialEq, Eq, Error)]
 #[error("{kind:?} at line {}, column {}", pos.line, pos.col)]
 pub struct SyntaxError {

@@ -225,7 +225,7 @@ fn both_spellings_of_directives(rt: HostRuntime) -> Result<(), Fail> {
 #[test]
 fn refusals_and_places(rt: HostRuntime) -> Result<(), Fail> {
     let alloc = rt.alloc();
-    let rows: [(&[u8], &str); 56] = [
+    let rows: [(&[u8], &str); 60] = [
         (
             b"(declare A Boolean)\n\x22\xC3",
             "declare/1/0; Lex(BadUtf8) 2:2 true",
@@ -293,6 +293,13 @@ fn refusals_and_places(rt: HostRuntime) -> Result<(), Fail> {
         (b") \x22", "Unexpected 1:1 true"),
         (b"(if ` )", "Lex(BadChar) 1:5 true"),
         (b"(if A B # (\n\n  ", "Unclosed 3:3 true"),
+        (b"match A { (_ y) => A }", "Unexpected 1:12 true"),
+        (b"(~ : S)", "Unexpected 1:2 true"),
+        (b"((!m) = A)", "Unexpected 1:7 true"),
+        (
+            b"(pick-witness w pick-any x y (!m))",
+            "Unexpected 1:34 true",
+        ),
         (b"?x \x22", "var; Lex(OpenString) 1:4 true"),
     ];
     for (text, wanted) in rows {

@@ -1,44 +1,12 @@
 use super::*;
 use ath_names::Names;
 use ath_sorts::Sym;
-use ath_syntax::{Directive, Form, Group, Phrases, What};
+use ath_syntax::{Directive, Group, Phrases, What};
 use std::alloc::Global;
 use std::test::Fail;
 
-fn form(form: &Form) -> &'static str {
-    match form {
-        Form::Name(_) => "name",
-        Form::Var(_, _, None) => "var",
-        Form::Var(_, _, Some(_)) => "var:sort",
-        Form::Str(_) => "string",
-        Form::List(_) => "list",
-        Form::Ascribe(_, _) => "ascribe",
-        Form::Apply(_, _) => "apply",
-        Form::Call(_, _) => "call",
-        Form::Lambda(_, _) => "lambda",
-        Form::Method(_, _) => "method",
-        Form::Let(_, _) => "let",
-        Form::LetRec(_, _) => "letrec",
-        Form::Match(_, _) => "match",
-        Form::Check(_, None) => "check",
-        Form::Check(_, Some(_)) => "check-else",
-        Form::Try(_) => "try",
-        Form::Seq(_) => "seq",
-        Form::Assume(None, _, _) => "assume",
-        Form::Assume(Some(_), _, _) => "assume-named",
-        Form::Absurd(None, _, _) => "absurd",
-        Form::Absurd(Some(_), _, _) => "absurd-named",
-        Form::PickAny(_, _) => "pick-any",
-        Form::PickWitness(_, _, _) => "pick-witness",
-        Form::Induct(_, _) => "induct",
-        Form::Cases(_, _) => "cases",
-        Form::Conclude(None, _, _) => "conclude",
-        Form::Conclude(Some(_), _, _) => "conclude-named",
-    }
-}
-
-// What a directive is; of a phrase its form, with `!` for a deduction.
-fn kind(alloc: Global, directive: &Directive, phrases: &Phrases) -> Result<String, Fail> {
+// What a directive is.
+fn kind(alloc: Global, directive: &Directive) -> Result<String, Fail> {
     let shown = match &directive.what {
         What::Domain(_, vars) => format!(in alloc; "domain/{}", vars.len())?,
         What::Datatype(_, vars, constructors) => {
@@ -56,11 +24,7 @@ fn kind(alloc: Global, directive: &Directive, phrases: &Phrases) -> Result<Strin
             *closed
         )?,
         What::Load(_) => String::from_str(alloc, "load")?,
-        What::Phrase(phrase) => {
-            let node = phrases.node(*phrase);
-            let mark = if node.deduction { "!" } else { "" };
-            format!(in alloc; "{mark}{}", form(&node.form))?
-        }
+        What::Phrase(_) => String::from_str(alloc, "phrase")?,
         _ => String::from_str(alloc, "?")?,
     };
     Ok(shown)
@@ -76,7 +40,7 @@ fn listing(alloc: Global, text: &[u8]) -> Result<String, Fail> {
     for _ in 0..=text.len() {
         match reader.directive(alloc, &mut names, &mut phrases, &operators) {
             Ok(Some(directive)) => {
-                lines.push_str(kind(alloc, &directive, &phrases)?.as_str())?;
+                lines.push_str(kind(alloc, &directive)?.as_str())?;
                 lines.push_str("; ")?;
             }
             Ok(None) => {
@@ -102,67 +66,67 @@ fn listing(alloc: Global, text: &[u8]) -> Result<String, Fail> {
 fn both_spellings_of_phrases(rt: HostRuntime) -> Result<(), Fail> {
     let alloc = rt.alloc();
     let rows: [(&str, &str); 44] = [
-        ("x", "name; end"),
-        ("M.x", "name; end"),
-        ("?x", "var; end"),
-        ("?x:(List 'S)", "var:sort; end"),
-        ("(?x : N)", "var:sort; end"),
-        ("\"text\"", "string; end"),
-        ("[] [x [\"a\"]]", "list; list; end"),
-        ("(x : (List N))", "ascribe; end"),
+        ("x", "phrase; end"),
+        ("M.x", "phrase; end"),
+        ("?x", "phrase; end"),
+        ("?x:(List 'S)", "phrase; end"),
+        ("(?x : N)", "phrase; end"),
+        ("\"text\"", "phrase; end"),
+        ("[] [x [\"a\"]]", "phrase; phrase; end"),
+        ("(x : (List N))", "phrase; end"),
         (
             "(x) (f x y) (= x y) (& x y)",
-            "apply; apply; apply; apply; end",
+            "phrase; phrase; phrase; phrase; end",
         ),
-        ("((f x)) ([x])", "apply; list; end"),
-        ("(!f) (!f x (!g x))", "!call; !call; end"),
-        ("lambda () x (lambda (x _ _) x)", "lambda; lambda; end"),
-        ("method (x) (!x) (method () (!f))", "method; method; end"),
-        ("let ((x y) (z (f x))) z", "let; end"),
-        ("(let { x := y ; z := (!f) } (!g))", "!let; end"),
-        ("dlet ((x y)) (!f)", "!let; end"),
+        ("((f x)) ([x])", "phrase; phrase; end"),
+        ("(!f) (!f x (!g x))", "phrase; phrase; end"),
+        ("lambda () x (lambda (x _ _) x)", "phrase; phrase; end"),
+        ("method (x) (!x) (method () (!f))", "phrase; phrase; end"),
+        ("let ((x y) (z (f x))) z", "phrase; end"),
+        ("(let { x := y ; z := (!f) } (!g))", "phrase; end"),
+        ("dlet ((x y)) (!f)", "phrase; end"),
         (
             "letrec ((f (lambda () x)) (g ((method () (!f))))) f",
-            "letrec; end",
+            "phrase; end",
         ),
         (
             "letrec { f := lambda () g; g := lambda () f } (!f)",
-            "!letrec; end",
+            "phrase; end",
         ),
-        ("(match x (y z) (_ z))", "match; end"),
-        ("match x { y => z | [a (f b)] => z }", "match; end"),
+        ("(match x (y z) (_ z))", "phrase; end"),
+        ("match x { y => z | [a (f b)] => z }", "phrase; end"),
         (
             "match x { (list-of a b) => y | (some-term c) => y | \"s\" => y }",
-            "match; end",
+            "phrase; end",
         ),
-        ("(dmatch x { y => (!f) })", "!match; end"),
-        ("(check (x y) (z y))", "check; end"),
-        ("(check (x y) (else y))", "check-else; end"),
-        ("check { x => (!f) | else => (!g) }", "!check-else; end"),
-        ("check { x => y }", "check; end"),
-        ("(try x y)", "try; end"),
-        ("try { (!f) | (!g) }", "!try; end"),
-        ("(dbegin (!f) (!g))", "!seq; end"),
-        ("{ (!f) ; (!g) }", "!seq; end"),
-        ("assume x (!f)", "!assume; end"),
-        ("(assume h := x (!f))", "!assume-named; end"),
-        ("suppose-absurd x (!f)", "!absurd; end"),
-        ("suppose-absurd h := x (!f)", "!absurd-named; end"),
-        ("pick-any x y:N z (!f)", "!pick-any; end"),
-        ("(pick-witness x y (!f))", "!pick-witness; end"),
-        ("pick-witness x (!g) (!f)", "!pick-witness; end"),
-        ("(by-induction x (zero (!f)) ((S n) (!f)))", "!induct; end"),
+        ("(dmatch x { y => (!f) })", "phrase; end"),
+        ("(check (x y) (z y))", "phrase; end"),
+        ("(check (x y) (else y))", "phrase; end"),
+        ("check { x => (!f) | else => (!g) }", "phrase; end"),
+        ("check { x => y }", "phrase; end"),
+        ("(try x y)", "phrase; end"),
+        ("try { (!f) | (!g) }", "phrase; end"),
+        ("(dbegin (!f) (!g))", "phrase; end"),
+        ("{ (!f) ; (!g) }", "phrase; end"),
+        ("assume x (!f)", "phrase; end"),
+        ("(assume h := x (!f))", "phrase; end"),
+        ("suppose-absurd x (!f)", "phrase; end"),
+        ("suppose-absurd h := x (!f)", "phrase; end"),
+        ("pick-any x y:N z (!f)", "phrase; end"),
+        ("(pick-witness x y (!f))", "phrase; end"),
+        ("pick-witness x (!g) (!f)", "phrase; end"),
+        ("(by-induction x (zero (!f)) ((S n) (!f)))", "phrase; end"),
         (
             "by-induction x { zero => (!f) | (S n) => (!f) }",
-            "!induct; end",
+            "phrase; end",
         ),
-        ("(datatype-cases x (zero (!f)))", "!cases; end"),
+        ("(datatype-cases x (zero (!f)))", "phrase; end"),
         (
             "datatype-cases x { zero => (!f) | (S _) => (!f) }",
-            "!cases; end",
+            "phrase; end",
         ),
-        ("conclude x (!f)", "!conclude; end"),
-        ("conclude h := x (!f)", "!conclude-named; end"),
+        ("conclude x (!f)", "phrase; end"),
+        ("conclude h := x (!f)", "phrase; end"),
         ("# nothing\n", "end"),
     ];
     for (text, wanted) in rows {
@@ -183,7 +147,7 @@ fn both_spellings_of_directives(rt: HostRuntime) -> Result<(), Fail> {
         ("(datatype N zero (S N))", "datatype/0/2; end"),
         (
             "datatype (List 'T) := nil | (cons 'T (List 'T)) x",
-            "datatype/1/2; name; end",
+            "datatype/1/2; phrase; end",
         ),
         (
             "(declare f N) (declare (f g) (-> (N N) N))",
@@ -213,8 +177,8 @@ fn both_spellings_of_directives(rt: HostRuntime) -> Result<(), Fail> {
         ),
         ("assert* h := (f x)", "assert true true; end"),
         ("(load \"f\") load \"f\"", "load; load; end"),
-        ("assert ?x x", "assert false false; name; end"),
-        ("assert (x)(y)", "assert false false; apply; end"),
+        ("assert ?x x", "assert false false; phrase; end"),
+        ("assert (x)(y)", "assert false false; phrase; end"),
     ];
     for (text, wanted) in rows {
         assert_eq!(rt; listing(alloc, text.as_bytes())?.as_str(), wanted);
@@ -289,7 +253,7 @@ fn refusals_and_places(rt: HostRuntime) -> Result<(), Fail> {
         (b"module M {", "Unexpected 1:1 true"),
         (b"(open M)", "Unexpected 1:2 true"),
         (b"()", "Unexpected 1:2 true"),
-        (b"(if ) `", "apply; Lex(BadChar) 1:7 true"),
+        (b"(if ) `", "phrase; Lex(BadChar) 1:7 true"),
         (b") \x22", "Unexpected 1:1 true"),
         (b"(if ` )", "Lex(BadChar) 1:5 true"),
         (b"(if A B # (\n\n  ", "Unclosed 3:3 true"),
@@ -300,7 +264,7 @@ fn refusals_and_places(rt: HostRuntime) -> Result<(), Fail> {
             b"(pick-witness w pick-any x y (!m))",
             "Unexpected 1:34 true",
         ),
-        (b"?x \x22", "var; Lex(OpenString) 1:4 true"),
+        (b"?x \x22", "phrase; Lex(OpenString) 1:4 true"),
     ];
     for (text, wanted) in rows {
         assert_eq!(rt; listing(alloc, text)?.as_str(), wanted);
@@ -325,7 +289,7 @@ fn levels_end_at_500(rt: HostRuntime) -> Result<(), Fail> {
     let alloc = rt.alloc();
     assert_eq!(rt;
         listing(alloc, nested(alloc, 500)?.as_bytes())?.as_str(),
-        "apply; end"
+        "phrase; end"
     );
     assert_eq!(rt;
         listing(alloc, nested(alloc, 501)?.as_bytes())?.as_str(),

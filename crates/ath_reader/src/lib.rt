@@ -8,6 +8,3 @@ mod reader;
 
 pub use operators::OpTable;
 pub use reader::{Reader, SyntaxError, SyntaxKind};
-
-#[cfg(test)]
-mod tests;

@@ -4,11 +4,11 @@
 mod exit;
 
 ghost use Rattle.std.specs.Prelude.{◌≡◌, ◌↔◌, None, map, string_bytes};
-ghost use Rattle.ath_eval.specs.Report.{file_of};
-ghost use Rattle.ath_eval.specs.declared.status.Status.TheVariants.{Usage};
+ghost use Rattle.ath_first_run.specs.Report.{file_of};
+ghost use Rattle.ath_first_run.specs.declared.status.Status.TheVariants.{Usage};
 
 use crate::exit::{exit_number, number_without_words};
-use ath_eval::{Status, athena};
+use ath_first_run::{Status, athena};
 use ath_io::{DirShelf, OutSink};
 use std::process::ExitCode;
 use std::rt::Env;

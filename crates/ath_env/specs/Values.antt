@@ -1,0 +1,73 @@
+-- Values as trees, and what the code's values stand for.
+use Rattle.std.specs.Prelude.{◌≡◌, ℕ, ◌<◌, List, Option, Some, None, length, map}
+use Rattle.std.specs.List.{All}
+use Rattle.ath_sorts.specs.declared.sorts.Sym.{Sym}
+use Rattle.ath_terms.specs.declared.node.Conn.{Conn as Connective}
+use Rattle.ath_terms.specs.declared.node.Quant.{Quant as Quantifier}
+use Rattle.ath_terms.specs.declared.node.SentId.{SentId}
+use Rattle.ath_terms.specs.Tree.{Term, Sent, atom}
+use Rattle.ath_terms.specs.Trees.{Trees, term_at, sent_at, IsSent}
+use Rattle.ath_env.specs.declared.value.Value as code
+use Rattle.ath_env.specs.declared.value.Value.TheVariants as code
+
+-- a sentence that is a value by itself is no atom: an atom is the value of its term
+pub data Value : Type 0 where
+  a_term : Term → Value
+  a_sentence : Sent → Value
+  a_symbol : Sym → Value
+  a_connective : Connective → Value
+  a_quantifier : Quantifier → Value
+  -- the mark `<==`
+  a_back : Value
+  -- a primitive method, by its number
+  a_method : ℕ → Value
+
+-- the sentence that a value is, where it is one: each term is a constant of sort Boolean yet
+abbrev pub sentence_of : Value → Option Sent
+sentence_of (a_term t) = Some (atom t)
+sentence_of (a_sentence p) = Some p
+sentence_of (a_symbol f) = None
+sentence_of (a_connective c) = None
+sentence_of (a_quantifier q) = None
+sentence_of a_back = None
+sentence_of (a_method n) = None
+
+abbrev pub value_at : Trees → code.Value → Value
+value_at s (code.Term t) = a_term (term_at s.terms t.0)
+value_at s (code.Sent p) = a_sentence (sent_at s.sents p.0)
+value_at s (code.Symbol f) = a_symbol f
+value_at s (code.Conn c) = a_connective c
+value_at s (code.Quant q) = a_quantifier q
+value_at s code.Back = a_back
+value_at s (code.PrimMethod n) = a_method n
+
+-- the number in a value is one of the store
+abbrev pub IsIn : Trees → code.Value → Type 0
+IsIn s (code.Term t) = t.0 < length s.terms
+IsIn s (code.Sent p) = p.0 < length s.sents
+IsIn s (code.Symbol f) = Unit {0}
+IsIn s (code.Conn c) = Unit {0}
+IsIn s (code.Quant q) = Unit {0}
+IsIn s code.Back = Unit {0}
+IsIn s (code.PrimMethod n) = Unit {0}
+
+abbrev pub IsValue : Trees → code.Value → Value → Type 0
+IsValue s v x = IsIn s v × (value_at s v ≡ x)
+
+-- the values stand for these, one by one
+abbrev pub AreValues : Trees → List code.Value → List Value → Type 0
+AreValues s vs xs = All (IsIn s) vs × (map (value_at s) vs ≡ xs)
+
+-- the sentence that is found is this one, or there is none
+abbrev pub IsSentenceOf : Trees → Option SentId → Option Sent → Type 0
+IsSentenceOf s None None = Unit {0}
+IsSentenceOf s (Some p) (Some x) = IsSent s p.0 x
+IsSentenceOf s None (Some x) = ⊥
+IsSentenceOf s (Some p) None = ⊥
+
+-- the value that is found stands for this one, or there is none
+abbrev pub IsFound : Trees → Option code.Value → Option Value → Type 0
+IsFound s None None = Unit {0}
+IsFound s (Some v) (Some x) = IsValue s v x
+IsFound s None (Some x) = ⊥
+IsFound s (Some v) None = ⊥

@@ -1,0 +1,49 @@
+// The value that a name finds.
+
+ghost use Rattle.std.specs.Prelude.{◌≡◌, ◌<◌, length, Option, IfOk, map};
+ghost use Rattle.std.specs.Map.{lookup};
+ghost use Rattle.std.specs.Str.{bytes_eq};
+ghost use Rattle.ath_terms.specs.Trees.{Grows};
+ghost use Rattle.ath_env.specs.LookUp.{looked_up, first_values};
+ghost use Rattle.ath_env.specs.Values.{IsFound};
+
+use crate::value::Value;
+use ath_names::Names;
+use ath_sorts::{Signature, Sym};
+use ath_terms::{Conn, Quant, Store, TermNode};
+use sqlite_items::Items;
+use std::alloc::{AllocError, Global};
+
+const FIRST_VALUES: [(&str, Value); 11] = [
+    ("claim", Value::PrimMethod(0)),
+    ("mp", Value::PrimMethod(1)),
+    ("not", Value::Conn(Conn::Not)),
+    ("and", Value::Conn(Conn::And)),
+    ("or", Value::Conn(Conn::Or)),
+    ("if", Value::Conn(Conn::If)),
+    ("iff", Value::Conn(Conn::Iff)),
+    ("forall", Value::Quant(Quant::Forall)),
+    ("exists", Value::Quant(Quant::Exists)),
+    ("=", Value::Symbol(Sym(3))),
+    ("<==", Value::Back),
+];
+
+/// The value that a name finds: the constant of a declared symbol, or what every script begins with under this name.
+pub fn look_up(
+    alloc: Global,
+    names: &Names,
+    sig: &Signature,
+    store: &mut Store,
+    name: Sym,
+) -> Result<Option<Value>, AllocError>
+    requires { name.0 < length names.now }
+    ensures grows { Grows store.old store.new }
+    ensures found { IfOk result (λ found. IsFound store.new found (looked_up names.now sig.now name)) }
+{
+    if sig.symbol(name).is_some() {
+        let node = TermNode::App(name, Items::new(alloc), Items::new(alloc));
+        let constant = store.add_term(node)?;
+        return Ok(Some(Value::Term(constant)));
+    }
+    Ok(first_value(names.text(name.0)))
+}

@@ -1,6 +1,7 @@
 pub mod Tree
 pub mod Code
 pub mod Trees
+pub mod Measure
 pub mod Nodes
 pub mod Built
 pub mod Lists

@@ -1,0 +1,109 @@
+-- The machine that evaluates: what waits for a part's outcome, and what a stack of that gives.
+use Rattle.std.specs.Prelude.{◌≡◌, ℕ, ◌+◌, ◌*◌, ◌<◌, List, [], ◌∷◌, ◌++◌, length, drop, Option, Some, None, slice_get}
+use Rattle.ath_syntax.specs.declared.node.PhraseId.{PhraseId}
+use Rattle.ath_syntax.specs.declared.node.Form.{Form}
+use Rattle.ath_syntax.specs.declared.node.Form.TheVariants.{Apply, Call}
+use Rattle.ath_syntax.specs.declared.node.Node.{Node}
+use Rattle.ath_syntax.specs.Nodes.{Nodes}
+use Rattle.ath_syntax.specs.Stands.{IsPhrase, ArePhrases}
+use Rattle.ath_syntax.specs.Tree.{Phrase, apply_at, call_at, Phrases, no_phrases}
+use Rattle.ath_terms.specs.Trees.{Trees, Grows}
+use Rattle.ath_env.specs.declared.value.Value as code
+use Rattle.ath_env.specs.Values.{Value, IsValue}
+use Rattle.ath_eval.specs.declared.frame.Frame.{Frame}
+use Rattle.ath_eval.specs.declared.frame.Frame.TheVariants.{Head, Argument}
+use Rattle.ath_eval.specs.declared.frame.State.{State}
+use Rattle.ath_eval.specs.declared.frame.State.TheVariants.{Enter, Done}
+use Rattle.ath_eval.specs.declared.world.Outcome as code
+use Rattle.ath_eval.specs.declared.world.Outcome.TheVariants as code
+use Rattle.ath_eval.specs.Outcomes.{Context, Outcome, and_then, each}
+use Rattle.ath_eval.specs.Methods.{applied, called}
+use Rattle.ath_eval.specs.Evaluation.{evaluated, form, place, unbuilt}
+use Rattle.ath_eval.specs.World.{IsOutcome, IsSmallValue}
+
+-- what becomes of the head and the arguments of an application or a call
+abbrev pub acts : Context → Phrase → Value → List Value → ℕ → Outcome
+acts c (apply_at p f xs) v vs = applied v vs p
+acts c (call_at p f xs) v vs = called c v vs p
+acts c x v vs = unbuilt (place x)
+
+abbrev pub arguments : Phrase → Phrases
+arguments (apply_at p f xs) = xs
+arguments (call_at p f xs) = xs
+arguments x = no_phrases
+
+-- the numbers of the arguments
+abbrev pub form_arguments : Form → List PhraseId
+form_arguments (Apply f is) = is
+form_arguments (Call f is) = is
+form_arguments x = []
+
+abbrev pub node_arguments : Option Node → List PhraseId
+node_arguments None = []
+node_arguments (Some n) = form_arguments n.form
+
+abbrev pub arguments_at : Nodes → PhraseId → List PhraseId
+arguments_at nodes i = node_arguments (slice_get nodes.phrases i.0)
+
+-- a value within the limits
+abbrev pub IsArgument : Trees → code.Value → Value → Type 0
+IsArgument s v x = IsValue s v x × IsSmallValue x
+
+abbrev pub AreArguments : Trees → List code.Value → List Value → Type 0
+AreArguments s [] [] = Unit {0}
+AreArguments s (v ∷ vs) (x ∷ xs) = IsArgument s v x × AreArguments s vs xs
+AreArguments s [] (x ∷ xs) = ⊥
+AreArguments s (v ∷ vs) [] = ⊥
+
+-- the frame makes this outcome of its part's outcome
+abbrev pub Fills : Context → Nodes → Trees → Frame → Outcome → Outcome → Type 0
+Fills c nodes s (Head i levels) r out =
+    (x : Phrase) × IsPhrase nodes i x × (out ≡ and_then r (λ v left. each (evaluated c levels) [] (arguments x) (acts c x v) left))
+Fills c nodes s (Argument i h done levels) r out =
+    (x : Phrase) × (v : Value) × (vs : List Value) × (rest : Phrases) × IsPhrase nodes i x × IsArgument s h v × AreArguments s done vs × ArePhrases nodes (drop (length done + 1) (arguments_at nodes i)) rest
+    × (out ≡ and_then r (λ w left. each (evaluated c levels) (vs ++ w ∷ []) rest (acts c x v) left))
+
+-- the frames, of which the last is resumed first, make this outcome
+abbrev pub Resumes : Context → Nodes → Trees → List Frame → Outcome → Outcome → Type 0
+Resumes c nodes s [] r out = out ≡ r
+Resumes c nodes s (f ∷ fs) r out = (mid : Outcome) × Resumes c nodes s fs r mid × Fills c nodes s f mid out
+
+-- from this state, with this fuel, the machine is to give this outcome
+abbrev pub Means : Context → Nodes → Trees → ℕ → State → List Frame → Outcome → Type 0
+Means c nodes s fuel (Enter i levels) fs out =
+    (x : Phrase) × IsPhrase nodes i x × Resumes c nodes s fs (evaluated c levels x fuel) out
+Means c nodes s fuel (Done o) fs out =
+    (r : Outcome) × IsOutcome s fuel o r × Resumes c nodes s fs r out
+
+-- what is left to do
+abbrev pub rank : State → ℕ
+rank (Enter i levels) = 1
+rank (Done (code.Value v)) = 2
+rank (Done (code.Theorem p)) = 2
+rank (Done (code.Error at why)) = 2
+rank (Done (code.Exhausted at)) = 0
+
+abbrev pub weight : ℕ → State → List Frame → ℕ
+weight fuel st fs = 4 * fuel + 2 * length fs + rank st
+
+-- a stretch of the machine's work, which keeps the outcomes that were to come
+pub record Steps (c : Context) (nodes : Nodes) (old : Trees) (before : Outcome → Type 0) (bound : ℕ) (new : Trees) (fuel : ℕ) (st : State) (fs : List Frame) : Type 0 where
+  pub grows : Grows old new
+  pub means : (out : Outcome) → before out → Means c nodes new fuel st fs out
+  pub falls : weight fuel st fs < bound
+
+-- the phrase's step is taken, and its parts have this many levels
+abbrev pub FormMeans : Context → Nodes → Trees → ℕ → PhraseId → ℕ → List Frame → Outcome → Type 0
+FormMeans c nodes s fuel i levels fs out =
+    (x : Phrase) × IsPhrase nodes i x × Resumes c nodes s fs (form c (evaluated c levels) x fuel) out
+
+-- the head is known, and these arguments
+abbrev pub ArgumentsMean : Context → Nodes → Trees → ℕ → PhraseId → code.Value → List code.Value → ℕ → List Frame → Outcome → Type 0
+ArgumentsMean c nodes s fuel i h done levels fs out =
+    (x : Phrase) × (v : Value) × (vs : List Value) × (rest : Phrases) × IsPhrase nodes i x × IsArgument s h v × AreArguments s done vs × ArePhrases nodes (drop (length done) (arguments_at nodes i)) rest
+    × Resumes c nodes s fs (each (evaluated c levels) vs rest (acts c x v) fuel) out
+
+-- a frame has been taken off, and gets an outcome
+abbrev pub FrameMeans : Context → Nodes → Trees → ℕ → code.Outcome → Frame → List Frame → Outcome → Type 0
+FrameMeans c nodes s fuel o f fs out =
+    (r : Outcome) × (mid : Outcome) × IsOutcome s fuel o r × Fills c nodes s f r mid × Resumes c nodes s fs mid out

@@ -1,0 +1,22 @@
+// What waits for a part's outcome.
+
+use crate::world::Outcome;
+use ath_env::Value;
+use ath_syntax::PhraseId;
+use sqlite_items::Items;
+
+/// What waits for the outcome of a part: an application or a call, and the levels that its parts have.
+#[derive(Debug, Drop)]
+pub(crate) enum Frame {
+    /// waits for its head
+    Head(PhraseId, u32),
+    /// waits for an argument; the head's value, and those of the arguments that are done
+    Argument(PhraseId, Value, Items<Value>, u32),
+}
+
+/// What comes next: to evaluate a phrase with so many levels, or to hand on an outcome.
+#[derive(Debug, Drop)]
+pub(crate) enum State {
+    Enter(PhraseId, u32),
+    Done(Outcome),
+}

@@ -1,0 +1,34 @@
+// What an evaluation runs in, and how it ends.
+
+ghost use Rattle.ath_eval.specs.World.{AreIn};
+
+use ath_env::Value;
+use ath_names::Names;
+use ath_print::Fault;
+use ath_sorts::Signature;
+use ath_syntax::{Phrases, Pos};
+use ath_terms::{SentId, Store};
+
+/// The state of a run: the names, what is declared, the nodes of sentences and of phrases, the assumption base with its
+/// oldest sentence first, and the steps that are left.
+#[derive(Drop)]
+pub struct World {
+    pub names: Names,
+    pub sig: Signature,
+    pub store: Store,
+    pub base: Vec<SentId>,
+    pub phrases: Phrases,
+    pub fuel: u64,
+    ghost in_store: { AreIn store base.items },
+}
+
+/// How an evaluation ends.
+#[derive(Debug, Drop)]
+pub enum Outcome {
+    Value(Value),
+    Theorem(SentId),
+    /// at the phrase that refuses
+    Error(Pos, Fault),
+    /// no fuel is left for the phrase at this place
+    Exhausted(Pos),
+}

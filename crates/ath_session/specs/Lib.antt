@@ -6,4 +6,5 @@ pub mod Report
 pub mod Run
 pub mod Session
 pub mod State
+pub mod Steps
 pub mod Theorems

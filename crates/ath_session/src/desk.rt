@@ -1,0 +1,230 @@
+// One step of a run: the next directive of the innermost text, or the next file.
+
+ghost use Rattle.std.specs.Prelude.{◌≡◌, ◌≤◌, ◌<◌, [], ◌∷◌, length, Some};
+ghost use Rattle.ath_io.specs.Faults.{Rose};
+ghost use Rattle.ath_io.specs.Shelf.{Texts};
+
+use crate::session::{Next, Session};
+use crate::status::Status;
+use ath_io::{FetchError, Shelf, Sink};
+use ath_print::{Event, Fault, FaultKind, line};
+use ath_reader::{Reader, SyntaxError, SyntaxKind};
+use ath_syntax::{Directive, Pos};
+use ath_tokens::LexKind;
+use std::alloc::{AllocError, Global};
+
+/// The most bytes that are asked for, one more than a file has.
+const MOST_ASKED: usize = 4_194_305;
+
+/// The most bytes of a file.
+const MOST_BYTES: usize = 4_194_304;
+
+/// The most loads that stand in one another.
+const MOST_LOADS: usize = 16;
+
+/// A run: the session, the files of the command line and how many of them are begun, the texts that are open with the
+/// innermost last, the names of all texts that were fetched, and whether an error was told.
+#[derive(Drop)]
+pub(crate) struct Desk<'a> {
+    pub(crate) session: Session,
+    pub(crate) named: Vec<&'a str>,
+    pub(crate) next: usize,
+    pub(crate) open: Vec<Reader>,
+    pub(crate) files: Vec<String>,
+    pub(crate) errors: bool,
+}
+
+/// How a run flows on.
+#[derive(Clone, Copy, Debug, PartialEq, Eq)]
+pub(crate) enum Flow {
+    On,
+    End(Status),
+}
+
+fn is_error(event: &Event) -> bool {
+    matches!(event, Event::Error(_, _))
+}
+
+/// Writes the line of an event.
+fn tell<K: Sink>(alloc: Global, desk: &mut Desk<'_>, event: &Event, sink: &mut K) -> Flow {
+    let world = desk.session.world();
+    let Ok(bytes) = line(alloc, event, &world.names, desk.files.as_slice(), &world.store) else {
+        return Flow::End(Status::Memory);
+    };
+    if sink.put(bytes.as_slice()).is_err() {
+        return Flow::End(Status::SinkFault);
+    }
+    desk.errors = desk.errors || is_error(event);
+    Flow::On
+}
+
+/// Writes the lines of events, one after the other.
+fn tell_all<K: Sink>(alloc: Global, desk: &mut Desk<'_>, events: &[Event], sink: &mut K) -> Flow {
+    for event in events {
+        if let Flow::End(status) = tell(alloc, desk, event, sink) {
+            return Flow::End(status);
+        }
+    }
+    Flow::On
+}
+
+/// Writes the line of a fault that names nothing.
+fn tell_fault<K: Sink>(
+    alloc: Global,
+    desk: &mut Desk<'_>,
+    at: Pos,
+    kind: FaultKind,
+    sink: &mut K,
+) -> Flow {
+    let event = Event::Error(at, Fault::plain(alloc, kind));
+    tell(alloc, desk, &event, sink)
+}
+
+/// Fetches the text of a name and opens it; `at` is the place that one that is too long is told at.
+fn ask<S: Shelf, K: Sink>(
+    alloc: Global,
+    desk: &mut Desk<'_>,
+    at: Pos,
+    name: &str,
+    shelf: &mut S,
+    sink: &mut K,
+) -> Flow {
+    let text = match shelf.fetch(alloc, name, MOST_ASKED) {
+        Ok(text) => text,
+        Err(FetchError::Failed) => return Flow::End(Status::SourceFault),
+        Err(FetchError::Memory) => return Flow::End(Status::Memory),
+    };
+    match open(alloc, desk, name, text) {
+        Err(_) => Flow::End(Status::Memory),
+        Ok(true) => Flow::On,
+        Ok(false) => tell_fault(alloc, desk, at, FaultKind::FileTooLong, sink),
+    }
+}
+
+/// Opens a text that was fetched, unless it is too long.
+fn open(alloc: Global, desk: &mut Desk<'_>, name: &str, text: Vec<u8>) -> Result<bool, AllocError> {
+    let number = desk.files.len();
+    let name = String::from_str(alloc, name)?;
+    desk.files.push(name)?;
+    if text.len() > MOST_BYTES {
+        return Ok(false);
+    }
+    desk.open.push(Reader::new(text, number))?;
+    Ok(true)
+}
+
+fn lexical_kind(kind: LexKind) -> FaultKind {
+    match kind {
+        LexKind::BadUtf8 => FaultKind::BadUtf8,
+        LexKind::BadChar => FaultKind::BadChar,
+        LexKind::OpenString => FaultKind::OpenString,
+        LexKind::NameTooLong => FaultKind::NameTooLong,
+        LexKind::Memory => FaultKind::NotBuilt,
+    }
+}
+
+fn fault_kind(kind: SyntaxKind) -> FaultKind {
+    match kind {
+        SyntaxKind::Lex(kind) => lexical_kind(kind),
+        SyntaxKind::Unexpected => FaultKind::Unexpected,
+        SyntaxKind::Unclosed => FaultKind::Unclosed,
+        SyntaxKind::KindMix => FaultKind::KindMix,
+        SyntaxKind::TooDeep => FaultKind::TooDeep,
+        SyntaxKind::Memory => FaultKind::NotBuilt,
+    }
+}
+
+/// The file of the command line that comes next, or the end.
+fn next_file<S: Shelf, K: Sink>(
+    alloc: Global,
+    desk: &mut Desk<'_>,
+    shelf: &mut S,
+    sink: &mut K,
+) -> Flow {
+    let named = desk.named.as_slice();
+    if desk.next >= named.len() {
+        let status = if desk.errors { Status::Errors } else { Status::Clean };
+        return Flow::End(status);
+    }
+    let name = named[desk.next];
+    desk.next += 1;
+    let at = Pos {
+        file: desk.files.len(),
+        line: 1,
+        col: 1,
+    };
+    ask(alloc, desk, at, name, shelf, sink)
+}
+
+/// Runs a directive of the innermost text.
+fn run_directive<S: Shelf, K: Sink>(
+    alloc: Global,
+    desk: &mut Desk<'_>,
+    directive: &Directive,
+    shelf: &mut S,
+    sink: &mut K,
+) -> Flow {
+    let Ok(reply) = desk.session.directive(alloc, directive) else {
+        return Flow::End(Status::Memory);
+    };
+    match &reply.next {
+        Next::Go => tell_all(alloc, desk, reply.events.as_slice(), sink),
+        Next::Stop => match tell_all(alloc, desk, reply.events.as_slice(), sink) {
+            Flow::On => Flow::End(Status::Fuel),
+            Flow::End(status) => Flow::End(status),
+        },
+        Next::Load(name) => {
+            if desk.open.len() > MOST_LOADS {
+                return tell_fault(alloc, desk, directive.pos, FaultKind::TooManyLoads, sink);
+            }
+            ask(alloc, desk, directive.pos, name.as_str(), shelf, sink)
+        }
+    }
+}
+
+/// A syntax error is told, and its text isn't open any more.
+fn refuse_text<K: Sink>(
+    alloc: Global,
+    desk: &mut Desk<'_>,
+    error: SyntaxError,
+    sink: &mut K,
+) -> Flow {
+    if error.kind == SyntaxKind::Memory {
+        return Flow::End(Status::Memory);
+    }
+    tell_fault(alloc, desk, error.pos, fault_kind(error.kind), sink)
+}
+
+/// Reads on in a text that was the innermost one.
+fn read_on<S: Shelf, K: Sink>(
+    alloc: Global,
+    desk: &mut Desk<'_>,
+    reader: Reader,
+    shelf: &mut S,
+    sink: &mut K,
+) -> Flow {
+    let mut reader = reader;
+    match desk.session.read(alloc, &mut reader) {
+        Ok(None) => Flow::On,
+        Err(error) => refuse_text(alloc, desk, error, sink),
+        Ok(Some(directive)) => {
+            if desk.open.push(reader).is_err() {
+                return Flow::End(Status::Memory);
+            }
+            run_directive(alloc, desk, &directive, shelf, sink)
+        }
+    }
+}
+
+/// The next step of a run.
+pub(crate) fn advance<S: Shelf, K: Sink>(
+    alloc: Global,
+    desk: &mut Desk<'_>,
+    shelf: &mut S,
+    sink: &mut K,
+) -> Flow {
+    match desk.open.pop() {
+        None => next_file(alloc, desk, shelf, sink),
+        Some(reader) => read_on(alloc, desk, reader, shelf, sink),
+    }
+}

@@ -1,12 +1,13 @@
 -- What a step of a run has done.
-use Rattle.std.specs.Prelude.{◌≡◌, ℕ, ◌+◌, ◌-◌, ◌*◌, ◌^◌, ◌<◌, Bool, true, false, ◌||◌, List, [], ◌∷◌, ◌++◌, length, map, drop, take, reverse, Option, string_bytes, Result, Ok, Err}
+use Rattle.std.specs.Prelude.{◌≡◌, ◌⊎◌, ℕ, ◌+◌, ◌-◌, ◌*◌, ◌^◌, ◌<◌, ◌≤◌, Bool, true, false, ◌||◌, List, [], ◌∷◌, ◌++◌, length, map, drop, take, reverse, string_bytes}
+use Rattle.std.specs.List.{All}
 use Rattle.ath_reader.specs.Reading.{Reading, Progress, reached, refused}
 use Rattle.ath_session.specs.declared.status.Status.{Status}
 use Rattle.ath_session.specs.declared.status.Status.TheVariants.{Clean, Errors, Usage, Fuel, SourceFault, SinkFault, Memory}
 use Rattle.ath_session.specs.declared.desk.Desk.{Desk}
 use Rattle.ath_session.specs.declared.desk.Flow.{Flow}
 use Rattle.ath_session.specs.declared.desk.Flow.TheVariants.{On, End}
-use Rattle.ath_session.specs.Run.{Said, Item, asks, tells, Configuration, Move, goes, halts, items_of, all_run, out_of_fuel}
+use Rattle.ath_session.specs.Run.{Said, Item, asks, tells, Configuration, reading_of, most_bytes, Move, goes, halts, items_of, all_run, out_of_fuel}
 use Rattle.ath_session.specs.Report.{has_error}
 use Rattle.ath_session.specs.Session.{state_of}
 use Rattle.ath_session.specs.Ends.{Outside, after_items, after_part}
@@ -19,23 +20,37 @@ configuration_of d = record {
   state = state_of d.session.world;
 }
 
--- each move that this one may be begins with these items
-abbrev pub Begins : (Move → Type 0) → List Item → Type 0
-Begins P front = (m : Move) → P m → (more : List Item) × (items_of m ≡ front ++ more)
+-- What is done of a move, where the run ends. `errors` says whether an error was told before.
+abbrev pub Ended : Move → Status → Bool → Outside → Outside → Type 0
+Ended m Clean errors o o' = (m ≡ halts [] all_run) × (errors ≡ false) × (o' ≡ o)
+Ended m Errors errors o o' = (m ≡ halts [] all_run) × (errors ≡ true) × (o' ≡ o)
+Ended m Fuel errors o o' = (items : List Item) × ((m ≡ halts items out_of_fuel) × (o' ≡ after_items o items))
+Ended m SourceFault errors o o' = (name : List ℕ) (more : List Item) × ((items_of m ≡ asks name ∷ more) × (o' ≡ after_items o (asks name ∷ [])))
+Ended m SinkFault errors o o' = (front more : List Item) (s : Said) (count : ℕ) × ((items_of m ≡ front ++ tells s ∷ more) × (o' ≡ after_part o front (take count s.line)))
+Ended m Memory errors o o' = (front more : List Item) × ((items_of m ≡ front ++ more) × (o' ≡ after_items o front))
+Ended m Usage errors o o' = ⊥
 
--- What a step did of the move that it may be, by how the run flows on. `before` and `after` are whether an error was told.
-abbrev pub Ended : (Move → Type 0) → Status → Bool → Outside → Outside → Type 0
-Ended P Clean errors o o' = P (halts [] all_run) × (errors ≡ false) × (o' ≡ o)
-Ended P Errors errors o o' = P (halts [] all_run) × (errors ≡ true) × (o' ≡ o)
-Ended P Fuel errors o o' = (items : List Item) × (P (halts items out_of_fuel) × (o' ≡ after_items o items))
-Ended P SourceFault errors o o' = (name : List ℕ) × (Begins P (asks name ∷ []) × (o' ≡ after_items o (asks name ∷ [])))
-Ended P SinkFault errors o o' = (front : List Item) (s : Said) (count : ℕ) × (Begins P (front ++ tells s ∷ []) × (o' ≡ after_part o front (take count s.line)))
-Ended P Memory errors o o' = (front : List Item) × (Begins P front × (o' ≡ after_items o front))
-Ended P Usage errors o o' = ⊥
+-- What is done of a move, by how the run flows on: all of it, after which the configuration is this one and whether an error
+-- was told is `after`; or what is done where the run ends.
+abbrev pub Did : Move → Flow → Bool → Bool → Configuration → Outside → Outside → Type 0
+Did m On before after c o o' = (items : List Item) × ((m ≡ goes items c) × (after ≡ (before || has_error items)) × (o' ≡ after_items o items))
+Did m (End status) before after c o o' = Ended m status before o o'
 
-abbrev pub Steps : (Move → Type 0) → Flow → Bool → Bool → Configuration → Outside → Outside → Type 0
-Steps P On before after c o o' = (items : List Item) × (P (goes items c) × (after ≡ (before || has_error items)) × (o' ≡ after_items o items))
-Steps P (End status) before after c o o' = Ended P status before o o'
+-- a text has been read up to a byte of it
+abbrev pub IsGoing : Reading → Type 0
+IsGoing r = (n : ℕ) × ((r.progress ≡ reached n) × (n ≤ length r.text))
+
+abbrev pub AreGoing : Configuration → Type 0
+AreGoing c = All IsGoing c.open
+
+-- at most one text more is open, from its beginning
+abbrev pub Opens : Configuration → Configuration → Type 0
+Opens c d = (d.waiting ≡ c.waiting) × ((d.open ≡ c.open) ⊎ ((file : ℕ) (text : List ℕ) × ((length text ≤ most_bytes) × (d.open ≡ reading_of file text ∷ c.open))))
+
+-- a text that was fetched is open, or is too long
+abbrev pub IsOpened : Configuration → List ℕ → List ℕ → Bool → Configuration → Type 0
+IsOpened c name text true d = (length text ≤ most_bytes) × (d ≡ record c { files = c.files ++ name ∷ []; open = reading_of (length c.files) text ∷ c.open })
+IsOpened c name text false d = (most_bytes < length text) × (d ≡ record c { files = c.files ++ name ∷ [] })
 
 -- How much of a run is left, so that each step leaves less: the files that wait, and the bytes of the open texts, of which
 -- one counts as much as a whole text in it.

@@ -1,8 +1,22 @@
 // One step of a run: the next directive of the innermost text, or the next file.
 
-ghost use Rattle.std.specs.Prelude.{◌≡◌, ◌≤◌, ◌<◌, [], ◌∷◌, length, Some};
+ghost use Rattle.std.specs.Prelude.{◌≡◌, ◌≢◌, ◌≤◌, ◌<◌, ◌-◌, [], ◌∷◌, length, map, Some, Option, IfOk, OnErr, true, false, ◌||◌};
+ghost use Rattle.std.specs.List.{All};
 ghost use Rattle.ath_io.specs.Faults.{Rose};
 ghost use Rattle.ath_io.specs.Shelf.{Texts};
+ghost use Rattle.ath_syntax.specs.Stands.{IsDirective};
+ghost use Rattle.ath_syntax.specs.Tree.{DirectiveTree};
+ghost use Rattle.ath_print.specs.Events.{is_refused, refused};
+ghost use Rattle.ath_eval.specs.Outcomes.{refusal};
+ghost use Rattle.ath_print.specs.Stands.{event_of, IsEventIn};
+ghost use Rattle.ath_terms.specs.Trees.{Trees};
+ghost use Rattle.ath_session.specs.declared.desk.Flow.TheVariants.{On, End};
+ghost use Rattle.ath_session.specs.declared.status.Status.TheVariants.{SourceFault as SourceFailed, SinkFault as SinkFailed};
+ghost use Rattle.ath_session.specs.Directives.{effect};
+ghost use Rattle.ath_session.specs.Ends.{Outside};
+ghost use Rattle.ath_session.specs.Run.{Move, Moves, goes, said, tell_all, asking, next_file, following, lexical_kind, fault_kind};
+ghost use Rattle.ath_session.specs.Steps.{configuration_of, Did, AreGoing, Opens, IsOpened, weight};
+ghost use Rattle.ath_session.specs.Session.{state_of};
 
 use crate::session::{Next, Session};
 use crate::status::Status;
@@ -41,12 +55,21 @@ pub(crate) enum Flow {
     End(Status),
 }
 
-fn is_error(event: &Event) -> bool {
+fn is_error(event: &Event) -> bool
+    ensures { (s : Trees) → result ≡ is_refused (event_of s event.now) }
+{
     matches!(event, Event::Error(_, _))
 }
 
 /// Writes the line of an event.
-fn tell<K: Sink>(alloc: Global, desk: &mut Desk<'_>, event: &Event, sink: &mut K) -> Flow {
+fn tell<K: Sink>(alloc: Global, desk: &mut Desk<'_>, event: &Event, sink: &mut K) -> Flow
+    requires { IsEventIn desk.old.session.world.store event.now }
+    ensures kept { desk.new ≡ record desk.old { errors = desk.new.errors } }
+    ensures did { (told : Option Texts) → Did (goes (said (configuration_of desk.old) (event_of desk.old.session.world.store event.now) ∷ []) (configuration_of desk.old)) result desk.old.errors desk.new.errors (configuration_of desk.new) (record { shelf = told; sink = K.told sink.old }) (record { shelf = told; sink = K.told sink.new }) }
+    ensures sink_later { K.faults sink.old ≤ K.faults sink.new }
+    ensures sink_cause { result ≡ End SinkFailed → Rose (K.faults sink.old) (K.faults sink.new) }
+    ensures no_source { result ≡ End SourceFailed → ⊥ }
+{
     let world = desk.session.world();
     let Ok(bytes) = line(alloc, event, &world.names, desk.files.as_slice(), &world.store) else {
         return Flow::End(Status::Memory);
@@ -59,7 +82,14 @@ fn tell<K: Sink>(alloc: Global, desk: &mut Desk<'_>, event: &Event, sink: &mut K
 }
 
 /// Writes the lines of events, one after the other.
-fn tell_all<K: Sink>(alloc: Global, desk: &mut Desk<'_>, events: &[Event], sink: &mut K) -> Flow {
+fn tell_all<K: Sink>(alloc: Global, desk: &mut Desk<'_>, events: &[Event], sink: &mut K) -> Flow
+    requires { All (IsEventIn desk.old.session.world.store) events.now }
+    ensures kept { desk.new ≡ record desk.old { errors = desk.new.errors } }
+    ensures did { (told : Option Texts) → Did (goes (tell_all (configuration_of desk.old) (map (event_of desk.old.session.world.store) events.now)) (configuration_of desk.old)) result desk.old.errors desk.new.errors (configuration_of desk.new) (record { shelf = told; sink = K.told sink.old }) (record { shelf = told; sink = K.told sink.new }) }
+    ensures sink_later { K.faults sink.old ≤ K.faults sink.new }
+    ensures sink_cause { result ≡ End SinkFailed → Rose (K.faults sink.old) (K.faults sink.new) }
+    ensures no_source { result ≡ End SourceFailed → ⊥ }
+{
     for event in events {
         if let Flow::End(status) = tell(alloc, desk, event, sink) {
             return Flow::End(status);
@@ -75,7 +105,13 @@ fn tell_fault<K: Sink>(
     at: Pos,
     kind: FaultKind,
     sink: &mut K,
-) -> Flow {
+) -> Flow
+    ensures kept { desk.new ≡ record desk.old { errors = desk.new.errors } }
+    ensures did { (told : Option Texts) → Did (goes (said (configuration_of desk.old) (refused at (refusal kind [])) ∷ []) (configuration_of desk.old)) result desk.old.errors desk.new.errors (configuration_of desk.new) (record { shelf = told; sink = K.told sink.old }) (record { shelf = told; sink = K.told sink.new }) }
+    ensures sink_later { K.faults sink.old ≤ K.faults sink.new }
+    ensures sink_cause { result ≡ End SinkFailed → Rose (K.faults sink.old) (K.faults sink.new) }
+    ensures no_source { result ≡ End SourceFailed → ⊥ }
+{
     let event = Event::Error(at, Fault::plain(alloc, kind));
     tell(alloc, desk, &event, sink)
 }
@@ -88,7 +124,14 @@ fn ask<S: Shelf, K: Sink>(
     name: &str,
     shelf: &mut S,
     sink: &mut K,
-) -> Flow {
+) -> Flow
+    ensures did { (t : Texts) → S.told shelf.old ≡ Some t → Did (asking t.texts (configuration_of desk.old) at name.now) result desk.old.errors desk.new.errors (configuration_of desk.new) (record { shelf = S.told shelf.old; sink = K.told sink.old }) (record { shelf = S.told shelf.new; sink = K.told sink.new }) }
+    ensures opens { result ≡ On → Opens (configuration_of desk.old) (configuration_of desk.new) }
+    ensures source_later { S.faults shelf.old ≤ S.faults shelf.new }
+    ensures source_cause { result ≡ End SourceFailed → Rose (S.faults shelf.old) (S.faults shelf.new) }
+    ensures sink_later { K.faults sink.old ≤ K.faults sink.new }
+    ensures sink_cause { result ≡ End SinkFailed → Rose (K.faults sink.old) (K.faults sink.new) }
+{
     let text = match shelf.fetch(alloc, name, MOST_ASKED) {
         Ok(text) => text,
         Err(FetchError::Failed) => return Flow::End(Status::SourceFault),
@@ -102,7 +145,10 @@ fn ask<S: Shelf, K: Sink>(
 }
 
 /// Opens a text that was fetched, unless it is too long.
-fn open(alloc: Global, desk: &mut Desk<'_>, name: &str, text: Vec<u8>) -> Result<bool, AllocError> {
+fn open(alloc: Global, desk: &mut Desk<'_>, name: &str, text: Vec<u8>) -> Result<bool, AllocError>
+    ensures errors { desk.new.errors ≡ desk.old.errors }
+    ensures opened { IfOk result (λ new. IsOpened (configuration_of desk.old) name.now text.items new (configuration_of desk.new)) }
+{
     let number = desk.files.len();
     let name = String::from_str(alloc, name)?;
     desk.files.push(name)?;
@@ -113,7 +159,9 @@ fn open(alloc: Global, desk: &mut Desk<'_>, name: &str, text: Vec<u8>) -> Result
     Ok(true)
 }
 
-fn lexical_kind(kind: LexKind) -> FaultKind {
+fn lexical_kind(kind: LexKind) -> FaultKind
+    ensures { result ≡ lexical_kind kind }
+{
     match kind {
         LexKind::BadUtf8 => FaultKind::BadUtf8,
         LexKind::BadChar => FaultKind::BadChar,
@@ -123,7 +171,9 @@ fn lexical_kind(kind: LexKind) -> FaultKind {
     }
 }
 
-fn fault_kind(kind: SyntaxKind) -> FaultKind {
+fn fault_kind(kind: SyntaxKind) -> FaultKind
+    ensures { result ≡ fault_kind kind }
+{
     match kind {
         SyntaxKind::Lex(kind) => lexical_kind(kind),
         SyntaxKind::Unexpected => FaultKind::Unexpected,
@@ -140,7 +190,17 @@ fn next_file<S: Shelf, K: Sink>(
     desk: &mut Desk<'_>,
     shelf: &mut S,
     sink: &mut K,
-) -> Flow {
+) -> Flow
+    requires { desk.old.open.items ≡ [] }
+    ensures did { (t : Texts) → S.told shelf.old ≡ Some t → Did (next_file t.texts (configuration_of desk.old) (configuration_of desk.old).waiting) result desk.old.errors desk.new.errors (configuration_of desk.new) (record { shelf = S.told shelf.old; sink = K.told sink.old }) (record { shelf = S.told shelf.new; sink = K.told sink.new }) }
+    ensures going { result ≡ On → AreGoing (configuration_of desk.new) }
+    ensures shallow { result ≡ On → length desk.new.open.items ≤ 17 }
+    ensures falls { result ≡ On → weight (configuration_of desk.new) < weight (configuration_of desk.old) }
+    ensures source_later { S.faults shelf.old ≤ S.faults shelf.new }
+    ensures source_cause { result ≡ End SourceFailed → Rose (S.faults shelf.old) (S.faults shelf.new) }
+    ensures sink_later { K.faults sink.old ≤ K.faults sink.new }
+    ensures sink_cause { result ≡ End SinkFailed → Rose (K.faults sink.old) (K.faults sink.new) }
+{
     let named = desk.named.as_slice();
     if desk.next >= named.len() {
         let status = if desk.errors { Status::Errors } else { Status::Clean };
@@ -163,7 +223,16 @@ fn run_directive<S: Shelf, K: Sink>(
     directive: &Directive,
     shelf: &mut S,
     sink: &mut K,
-) -> Flow {
+) -> Flow
+    requires { (d : DirectiveTree) × IsDirective desk.old.session.world.phrases directive.now d }
+    ensures did { (t : Texts) (d : DirectiveTree) → S.told shelf.old ≡ Some t → IsDirective desk.old.session.world.phrases directive.now d → Did (following t.texts (record (configuration_of desk.old) { state = (effect (configuration_of desk.old).state d).state }) (length desk.old.open.items - 1) directive.now.pos (effect (configuration_of desk.old).state d).events (effect (configuration_of desk.old).state d).next) result desk.old.errors desk.new.errors (configuration_of desk.new) (record { shelf = S.told shelf.old; sink = K.told sink.old }) (record { shelf = S.told shelf.new; sink = K.told sink.new }) }
+    ensures opens { result ≡ On → Opens (configuration_of desk.old) (configuration_of desk.new) }
+    ensures shallow { result ≡ On → length desk.old.open.items ≤ 17 → length desk.new.open.items ≤ 17 }
+    ensures source_later { S.faults shelf.old ≤ S.faults shelf.new }
+    ensures source_cause { result ≡ End SourceFailed → Rose (S.faults shelf.old) (S.faults shelf.new) }
+    ensures sink_later { K.faults sink.old ≤ K.faults sink.new }
+    ensures sink_cause { result ≡ End SinkFailed → Rose (K.faults sink.old) (K.faults sink.new) }
+{
     let Ok(reply) = desk.session.directive(alloc, directive) else {
         return Flow::End(Status::Memory);
     };
@@ -188,7 +257,14 @@ fn refuse_text<K: Sink>(
     desk: &mut Desk<'_>,
     error: SyntaxError,
     sink: &mut K,
-) -> Flow {
+) -> Flow
+    ensures kept { desk.new ≡ record desk.old { errors = desk.new.errors } }
+    ensures memory { error.kind ≡ SyntaxKind.Memory → (result ≡ End Status.Memory) × (K.told sink.new ≡ K.told sink.old) }
+    ensures did { (error.kind ≡ SyntaxKind.Memory → ⊥) → (told : Option Texts) → Did (goes (said (configuration_of desk.old) (refused error.pos (refusal (fault_kind error.kind) [])) ∷ []) (configuration_of desk.old)) result desk.old.errors desk.new.errors (configuration_of desk.new) (record { shelf = told; sink = K.told sink.old }) (record { shelf = told; sink = K.told sink.new }) }
+    ensures sink_later { K.faults sink.old ≤ K.faults sink.new }
+    ensures sink_cause { result ≡ End SinkFailed → Rose (K.faults sink.old) (K.faults sink.new) }
+    ensures no_source { result ≡ End SourceFailed → ⊥ }
+{
     if error.kind == SyntaxKind::Memory {
         return Flow::End(Status::Memory);
     }
@@ -202,7 +278,19 @@ fn read_on<S: Shelf, K: Sink>(
     reader: Reader,
     shelf: &mut S,
     sink: &mut K,
-) -> Flow {
+) -> Flow
+    requires shallow { length desk.old.open.items ≤ 16 }
+    requires going { AreGoing (record (configuration_of desk.old) { open = reader ∷ (configuration_of desk.old).open }) }
+    ensures moves { (t : Texts) → S.told shelf.old ≡ Some t → result ≢ End Status.Memory → result ≢ End SourceFailed → result ≢ End SinkFailed → (m : Move) × Moves t.texts (record (configuration_of desk.old) { open = reader ∷ (configuration_of desk.old).open }) m }
+    ensures did { (t : Texts) (m : Move) → S.told shelf.old ≡ Some t → Moves t.texts (record (configuration_of desk.old) { open = reader ∷ (configuration_of desk.old).open }) m → Did m result desk.old.errors desk.new.errors (configuration_of desk.new) (record { shelf = S.told shelf.old; sink = K.told sink.old }) (record { shelf = S.told shelf.new; sink = K.told sink.new }) }
+    ensures going { result ≡ On → AreGoing (configuration_of desk.new) }
+    ensures shallow { result ≡ On → length desk.new.open.items ≤ 17 }
+    ensures falls { result ≡ On → weight (configuration_of desk.new) < weight (record (configuration_of desk.old) { open = reader ∷ (configuration_of desk.old).open }) }
+    ensures source_later { S.faults shelf.old ≤ S.faults shelf.new }
+    ensures source_cause { result ≡ End SourceFailed → Rose (S.faults shelf.old) (S.faults shelf.new) }
+    ensures sink_later { K.faults sink.old ≤ K.faults sink.new }
+    ensures sink_cause { result ≡ End SinkFailed → Rose (K.faults sink.old) (K.faults sink.new) }
+{
     let mut reader = reader;
     match desk.session.read(alloc, &mut reader) {
         Ok(None) => Flow::On,
@@ -222,7 +310,19 @@ pub(crate) fn advance<S: Shelf, K: Sink>(
     desk: &mut Desk<'_>,
     shelf: &mut S,
     sink: &mut K,
-) -> Flow {
+) -> Flow
+    requires shallow { length desk.old.open.items ≤ 17 }
+    requires going { AreGoing (configuration_of desk.old) }
+    ensures moves { (t : Texts) → S.told shelf.old ≡ Some t → result ≢ End Status.Memory → result ≢ End SourceFailed → result ≢ End SinkFailed → (m : Move) × Moves t.texts (configuration_of desk.old) m }
+    ensures did { (t : Texts) (m : Move) → S.told shelf.old ≡ Some t → Moves t.texts (configuration_of desk.old) m → Did m result desk.old.errors desk.new.errors (configuration_of desk.new) (record { shelf = S.told shelf.old; sink = K.told sink.old }) (record { shelf = S.told shelf.new; sink = K.told sink.new }) }
+    ensures going { result ≡ On → AreGoing (configuration_of desk.new) }
+    ensures shallow { result ≡ On → length desk.new.open.items ≤ 17 }
+    ensures falls { result ≡ On → weight (configuration_of desk.new) < weight (configuration_of desk.old) }
+    ensures source_later { S.faults shelf.old ≤ S.faults shelf.new }
+    ensures source_cause { result ≡ End SourceFailed → Rose (S.faults shelf.old) (S.faults shelf.new) }
+    ensures sink_later { K.faults sink.old ≤ K.faults sink.new }
+    ensures sink_cause { result ≡ End SinkFailed → Rose (K.faults sink.old) (K.faults sink.new) }
+{
     match desk.open.pop() {
         None => next_file(alloc, desk, shelf, sink),
         Some(reader) => read_on(alloc, desk, reader, shelf, sink),

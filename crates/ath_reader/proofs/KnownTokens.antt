@@ -30,7 +30,7 @@ use Rattle.ath_tokens.proofs.CutLaws.{found_is_longest}
 use Rattle.ath_lexemes.specs.Lexemes.{word_lexeme, text_of, IsNumbered, lexeme_of}
 use Rattle.ath_lexemes.proofs.LexemeLaws.{some_words, wild_is_one}
 use Rattle.ath_numbering.specs.Known.{IsKnown, Known}
-use Rattle.ath_reader.specs.Ahead.{number_in, seen_as, Ahead, a_token, the_end, a_fault, ahead, Reads, reads_none, reads_more}
+use Rattle.ath_reader.specs.Ahead.{number_in, seen_as, Ahead, a_token, the_end, a_fault, ahead, Reads, reads_none, reads_more, names_past}
 use Rattle.ath_reader.proofs.Carried.{reads_snoc}
 
 -- the names of tokens are ASCII
@@ -161,7 +161,7 @@ found_within text from l s e f = ⊎_elim (λ past. absurd (clash (sym (at_end p
     clash : ended ≡ found l s e → ⊥
     clash h = cc
 
-same_token : (t u : Placed) (known last : List (List ℕ)) (m n : ℕ) → a_token t known m ≡ a_token u last n → (t ≡ u) × (known ≡ last) × (m ≡ n)
+pub same_token : (t u : Placed) (known last : List (List ℕ)) (m n : ℕ) → a_token t known m ≡ a_token u last n → (t ≡ u) × (known ≡ last) × (m ≡ n)
 same_token t u known last m n e = (cc, cc, cc)
 
 module _ (file : ℕ) (text : List ℕ) where
@@ -219,6 +219,13 @@ module _ (file : ℕ) (text : List ℕ) where
       let rest = reads_few next mid ts known to b.1 r in
       (omega (arith, b.0, rest.0), rest.1)
 
+  -- where there are tokens, a byte or more is passed
+  pub reads_rise : (names : List (List ℕ)) (from : ℕ) (t : Placed) (ts : List Placed) (known : List (List ℕ)) (to : ℕ) → Reads file text names from (t ∷ ts) known to → (from < to) × (to ≤ length text)
+  reads_rise names from t ts known to (reads_more {known = next} {mid = mid} e r) =
+      let b = token_bytes names from t next mid e in
+      let rest = reads_few next mid ts known to b.1 r in
+      (omega (arith, b.0, rest.0), rest.1)
+
   -- no more tokens than bytes
   pub reads_short : (names : List (List ℕ)) (from : ℕ) (ts : List Placed) (known : List (List ℕ)) (to : ℕ) → Reads file text names from ts known to → length ts ≤ length text
   reads_short names from [] known to r = omega arith
@@ -231,6 +238,12 @@ module _ (file : ℕ) (text : List ℕ) where
   pub reads_grow : (names : List (List ℕ)) (from : ℕ) (ts : List Placed) (known : List (List ℕ)) (to : ℕ) → Reads file text names from ts known to → Grows names known
   reads_grow names from [] known to reads_none = Grows-refl names
   reads_grow names from (t ∷ ts) known to (reads_more {known = next} {mid = mid} e r) = Grows-trans (token_grow names from t next mid e) (reads_grow next mid ts known to r)
+
+  -- those of what comes next are more still
+  pub past_grows : (names : List (List ℕ)) (from : ℕ) (ts : List Placed) (known : List (List ℕ)) (to : ℕ) (next : Ahead) → Reads file text names from ts known to → ahead file text known to ≡ next → Grows names (names_past next known)
+  past_grows names from ts known to (a_token t last end) r e = Grows-trans (reads_grow names from ts known to r) (token_grow known to t last end e)
+  past_grows names from ts known to the_end r e = reads_grow names from ts known to r
+  past_grows names from ts known to (a_fault kind byte) r e = reads_grow names from ts known to r
 
   -- a table of names stays one
   pub reads_table : (names : List (List ℕ)) (from : ℕ) (ts : List Placed) (known : List (List ℕ)) (to : ℕ) → IsTable names → Reads file text names from ts known to → IsTable known

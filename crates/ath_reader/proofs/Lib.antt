@@ -1,8 +1,11 @@
+pub mod Advance
 mod Carried
 mod Endings
 mod KnownTokens
 mod Landings
+pub mod NextAnswers
 mod Numbered
+pub mod OneNext
 mod ProperRead
 mod Seen
 mod Turned

@@ -3,6 +3,7 @@
 
 mod automaton;
 mod ending;
+pub mod laws;
 mod operators;
 mod reader;
 

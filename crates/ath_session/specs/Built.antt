@@ -5,7 +5,8 @@ use Rattle.std.specs.Str.{bytes_eq}
 use Rattle.ath_sorts.specs.declared.sorts.Sym.{Sym}
 use Rattle.ath_syntax.specs.declared.place.Pos.{Pos}
 use Rattle.ath_syntax.specs.declared.node.SortText.{SortText}
-use Rattle.ath_syntax.specs.declared.node.SortText.TheVariants as sort
+use Rattle.ath_syntax.specs.declared.node.SortText.TheOpen as one
+use Rattle.ath_syntax.specs.declared.node.SortText.TheFolds.{fold-SortText}
 use Rattle.ath_syntax.specs.Tree.{Phrase, name_at, apply_at, call_at, Phrases, no_phrases, more_phrases, is_deduction, Statement, domain_is, datatype_is, declare_is, define_is, define_fun_is, assert_is, load_is, phrase_is}
 use Rattle.ath_env.specs.LookUp.{text_of}
 use Rattle.ath_eval.specs.Evaluation.{place}
@@ -38,12 +39,15 @@ abbrev mutual
   unbuilt_among names no_phrases = None
   unbuilt_among names (more_phrases x xs) = or_else (unbuilt names x) (unbuilt_among names xs)
 
+abbrev pub boolean_step : one.SortText-F Bool → Bool
+boolean_step (one.Name n) = n.0 == 0
+boolean_step (one.Con n []) = n.0 == 0
+boolean_step (one.Con n (b ∷ bs)) = false
+boolean_step (one.Var n) = false
+
 -- the sort Boolean, as it is written
 abbrev pub is_boolean : SortText → Bool
-is_boolean (sort.Name n) = n.0 == 0
-is_boolean (sort.Con n []) = n.0 == 0
-is_boolean (sort.Con n (s ∷ ss)) = false
-is_boolean (sort.Var n) = false
+is_boolean = fold-SortText Bool boolean_step
 
 abbrev pub no_parameters : Option (List Sym) → Bool
 no_parameters None = true

@@ -23,24 +23,24 @@ after_part o items front = record { shelf = with_asked o.shelf (names_in items);
 
 -- what is done of a log: all of it; or all up to a name that is asked for, where the source fails; all before a line, and a
 -- front of that, where the sink fails; or some of it, where memory is wanted
-abbrev pub Did : Status → List Item → Outside → Outside → Type 0
-Did Clean log before after = after ≡ after_items before log
-Did Errors log before after = after ≡ after_items before log
-Did Fuel log before after = after ≡ after_items before log
-Did SourceFault log before after =
-    (front more : List Item) (name : List ℕ) × ((log ≡ front ++ asks name ∷ more) × (after ≡ after_items before (front ++ asks name ∷ [])))
-Did SinkFault log before after =
-    (front more : List Item) (s : Said) (count : ℕ) × ((log ≡ front ++ tells s ∷ more) × (after ≡ after_part before front (take count s.line)))
-Did Memory log before after =
-    (front more : List Item) × ((log ≡ front ++ more) × (after ≡ after_items before front))
-Did Usage log before after = after ≡ before
+abbrev pub Performed : Status → List Item → Outside → Outside → Type 0
+Performed Clean log before after = after ≡ after_items before log
+Performed Errors log before after = after ≡ after_items before log
+Performed Fuel log before after = after ≡ after_items before log
+Performed SourceFault log before after =
+    (front : List Item) × (more : List Item) × (name : List ℕ) × ((log ≡ front ++ asks name ∷ more) × (after ≡ after_items before (front ++ asks name ∷ [])))
+Performed SinkFault log before after =
+    (front : List Item) × (more : List Item) × (s : Said) × (count : ℕ) × ((log ≡ front ++ tells s ∷ more) × (after ≡ after_part before front (take count s.line)))
+Performed Memory log before after =
+    (front : List Item) × (more : List Item) × ((log ≡ front ++ more) × (after ≡ after_items before front))
+Performed Usage log before after = after ≡ before
 
 -- the report, and what is done of it
 abbrev pub Whole : List (List ℕ) → List (List ℕ × List ℕ) → Status → Outside → Outside → Type 0
-Whole words texts status before after = (r : Report) × (IsReport words texts r × (r.status ≡ status) × TheoremsFollow r × Did status r.log before after)
+Whole words texts status before after = (r : Report) × (IsReport words texts r × (r.status ≡ status) × TheoremsFollow r × Performed status r.log before after)
 
 abbrev pub InPart : List (List ℕ) → List (List ℕ × List ℕ) → Status → Outside → Outside → Type 0
-InPart words texts status before after = (r : Report) → IsReport words texts r → TheoremsFollow r × Did status r.log before after
+InPart words texts status before after = (r : Report) → IsReport words texts r → TheoremsFollow r × Performed status r.log before after
 
 -- where the status is the report's, the report is written whole
 abbrev pub Reports : List (List ℕ) → List (List ℕ × List ℕ) → Status → Outside → Outside → Type 0

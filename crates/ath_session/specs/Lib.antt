@@ -1,4 +1,5 @@
 pub mod Built
+pub mod BuiltParts
 pub mod Directives
 pub mod Ends
 pub mod Laws

@@ -37,7 +37,7 @@ status_of out_of_fuel log = Fuel
 status_of no_text log = SourceFault
 
 abbrev pub start : Asked → Configuration
-start run = record { waiting = run.files; open = []; files = []; state = first_state run.fuel }
+start run = record { waiting = run.files; stack = []; files = []; state = first_state run.fuel }
 
 -- the whole log of a run
 pub record IsLogOf (texts : List (List ℕ × List ℕ)) (from : Configuration) (log : List Item) (h : Halt) : Type 0 where

@@ -3,11 +3,12 @@ use Rattle.std.specs.Prelude.{◌≡◌, ℕ, nat_lt, List, [], ◌∷◌, ◌++
 use Rattle.ath_syntax.specs.declared.place.Pos.{Pos}
 use Rattle.ath_syntax.specs.Tree.{DirectiveTree, directive_at}
 use Rattle.ath_io.specs.Shelf.{front_of}
+use Rattle.ath_tokens.specs.declared.tokens.LexKind.{LexKind}
 use Rattle.ath_tokens.specs.declared.tokens.LexKind.TheVariants as lexical
 use Rattle.ath_reader.specs.declared.reader.SyntaxError.{SyntaxError}
 use Rattle.ath_reader.specs.declared.reader.SyntaxKind.{SyntaxKind}
 use Rattle.ath_reader.specs.declared.reader.SyntaxKind.TheVariants as syntax
-use Rattle.ath_reader.specs.Reading.{Reading, Progress, reached, refused}
+use Rattle.ath_reader.specs.Reading.{Reading, reached}
 use Rattle.ath_reader.specs.Next as reading
 use Rattle.ath_print.specs.declared.fault.FaultKind.{FaultKind}
 use Rattle.ath_print.specs.declared.fault.FaultKind.TheVariants.{BadUtf8, BadChar, OpenString, NameTooLong, Unexpected, Unclosed, KindMix, TooDeep, FileTooLong, TooManyLoads, NotBuilt}
@@ -31,7 +32,7 @@ pub data Item : Type 0 where
 -- texts that were fetched, by the number of their reading; and the state
 pub record Configuration : Type 0 where
   pub waiting : List (List ℕ)
-  pub open : List Reading
+  pub stack : List Reading
   pub files : List (List ℕ)
   pub state : State
 
@@ -68,7 +69,7 @@ opened c at name text =
     let named = record c { files = c.files ++ name ∷ [] } in
     if nat_lt most_bytes (length text)
     then goes (asks name ∷ said named (events.refused at (refusal FileTooLong [])) ∷ []) named
-    else goes (asks name ∷ []) (record named { open = reading_of (length c.files) text ∷ c.open })
+    else goes (asks name ∷ []) (record named { stack = reading_of (length c.files) text ∷ c.stack })
 
 abbrev pub fetched : Configuration → Pos → List ℕ → Option (List ℕ) → Move
 fetched c at name None = halts (asks name ∷ []) no_text
@@ -102,7 +103,7 @@ following texts c outer at es (loads name) =
     then asking texts c at name
     else goes (said c (events.refused at (refusal TooManyLoads [])) ∷ []) c
 
-abbrev pub lexical_kind : lexical.LexKind → FaultKind
+abbrev pub lexical_kind : LexKind → FaultKind
 lexical_kind lexical.BadUtf8 = BadUtf8
 lexical_kind lexical.BadChar = BadChar
 lexical_kind lexical.OpenString = OpenString
@@ -125,24 +126,19 @@ place_of (directive_at at s) = at
 abbrev pub turned : List (List ℕ × List ℕ) → Configuration → Reading → List Reading → reading.Next → Move
 turned texts c r rs (reading.whole d to known) =
     let e = effect (with_names known c.state) d in
-    following texts (record c { open = record r { progress = reached to } ∷ rs; state = e.state }) (length rs) (place_of d) e.events e.next
-turned texts c r rs reading.ended = goes [] (record c { open = rs })
+    following texts (record c { stack = record r { progress = reached to } ∷ rs; state = e.state }) (length rs) (place_of d) e.events e.next
+turned texts c r rs reading.ended = goes [] (record c { stack = rs })
 turned texts c r rs (reading.stopped e known) =
-    let after = record c { open = rs; state = with_names known c.state } in
+    let after = record c { stack = rs; state = with_names known c.state } in
     goes (said after (events.refused e.pos (refusal (fault_kind e.kind) [])) ∷ []) after
-
--- the byte that is reached
-abbrev pub byte_of : Progress → ℕ
-byte_of (reached n) = n
-byte_of (refused e) = 0
 
 abbrev pub Turns : List (List ℕ × List ℕ) → Configuration → List Reading → Move → Type 0
 Turns texts c [] m = m ≡ next_file texts c c.waiting
-Turns texts c (r ∷ rs) m = (n : reading.Next) × reading.IsNext r c.state.names (byte_of r.progress) n × (m ≡ turned texts c r rs n)
+Turns texts c (r ∷ rs) m = (n : reading.Next) × reading.IsNext r c.state.names (reading.byte_reached r.progress) n × (m ≡ turned texts c r rs n)
 
 -- the next step of a run over these texts
 abbrev pub Moves : List (List ℕ × List ℕ) → Configuration → Move → Type 0
-Moves texts c m = Turns texts c c.open m
+Moves texts c m = Turns texts c c.stack m
 
 -- some steps, and what they did
 pub data Runs (texts : List (List ℕ × List ℕ)) (start : Configuration) : List Item → Configuration → Type 0 where

@@ -1,11 +1,10 @@
 // What isn't built yet.
 
-ghost use Rattle.std.specs.Prelude.{◌≡◌, ◌<◌, length, Option, codes};
-ghost use Rattle.ath_sorts.specs.declared.sorts.Sym.{Sym as Name};
-ghost use Rattle.ath_syntax.specs.Stands.{IsPhrase, ArePhrases, IsDirective, IsStatement};
+ghost use Rattle.std.specs.Prelude.{◌≡◌, option_map};
+ghost use Rattle.ath_syntax.specs.Stands.{IsPhrase, IsNode, ArePhrases, IsStatement};
 ghost use Rattle.ath_syntax.specs.Tree.{Phrase, Phrases as PhraseTrees, Statement};
 ghost use Rattle.ath_session.specs.Built.{is_name, is_method_name, are_expressions, unbuilt, is_boolean, is_boolean_constant, no_parameters, unbuilt_in};
-ghost use Rattle.ath_session.specs.BuiltParts.{AreParts};
+ghost use Rattle.ath_session.specs.BuiltParts.{AreParts, parts};
 
 use ath_names::Names;
 use ath_sorts::Sym;
@@ -36,7 +35,9 @@ fn are_expressions(phrases: &Phrases, parts: &[PhraseId]) -> bool
 }
 
 /// The parts of a built node, which have to be built too; none where the node isn't built.
-fn built_parts<'a>(names: &Names, phrases: &'a Phrases, node: &'a Node) -> Option<&'a [PhraseId]>
+fn built_parts<'a>(names: &Names, phrases: &Phrases, node: &'a Node) -> Option<&'a [PhraseId]>
+    requires { (x : Phrase) × IsNode phrases.now node.now x }
+    ensures { (x : Phrase) → IsNode phrases.now node.now x → AreParts phrases.now (option_map (λ is. is.now) result) (parts names.now x) }
 {
     match &node.form {
         Form::Name(_) => Some(&[]),

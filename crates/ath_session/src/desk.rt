@@ -39,9 +39,9 @@ const MOST_LOADS: usize = 16;
 /// A run: the session, the files of the command line and how many of them are begun, the texts that are open with the
 /// innermost last, the names of all texts that were fetched, and whether an error was told.
 #[derive(Drop)]
-pub(crate) struct Desk<'a> {
+pub(crate) struct Desk {
     pub(crate) session: Session,
-    pub(crate) named: Vec<&'a str>,
+    pub(crate) named: Vec<String>,
     pub(crate) next: usize,
     pub(crate) open: Vec<Reader>,
     pub(crate) files: Vec<String>,
@@ -62,7 +62,7 @@ fn is_error(event: &Event) -> bool
 }
 
 /// Writes the line of an event.
-fn tell<K: Sink>(alloc: Global, desk: &mut Desk<'_>, event: &Event, sink: &mut K) -> Flow
+fn tell<K: Sink>(alloc: Global, desk: &mut Desk, event: &Event, sink: &mut K) -> Flow
     requires { IsEventIn desk.old.session.world.store event.now }
     ensures kept { desk.new ≡ record desk.old { errors = desk.new.errors } }
     ensures did { (told : Option Texts) → Did (goes (said (configuration_of desk.old) (event_of desk.old.session.world.store event.now) ∷ []) (configuration_of desk.old)) result desk.old.errors desk.new.errors (configuration_of desk.new) (record { shelf = told; sink = K.told sink.old }) (record { shelf = told; sink = K.told sink.new }) }
@@ -82,7 +82,7 @@ fn tell<K: Sink>(alloc: Global, desk: &mut Desk<'_>, event: &Event, sink: &mut K
 }
 
 /// Writes the lines of events, one after the other.
-fn tell_all<K: Sink>(alloc: Global, desk: &mut Desk<'_>, events: &[Event], sink: &mut K) -> Flow
+fn tell_all<K: Sink>(alloc: Global, desk: &mut Desk, events: &[Event], sink: &mut K) -> Flow
     requires { All (IsEventIn desk.old.session.world.store) events.now }
     ensures kept { desk.new ≡ record desk.old { errors = desk.new.errors } }
     ensures did { (told : Option Texts) → Did (goes (tell_all (configuration_of desk.old) (map (event_of desk.old.session.world.store) events.now)) (configuration_of desk.old)) result desk.old.errors desk.new.errors (configuration_of desk.new) (record { shelf = told; sink = K.told sink.old }) (record { shelf = told; sink = K.told sink.new }) }
@@ -101,7 +101,7 @@ fn tell_all<K: Sink>(alloc: Global, desk: &mut Desk<'_>, events: &[Event], sink:
 /// Writes the line of a fault that names nothing.
 fn tell_fault<K: Sink>(
     alloc: Global,
-    desk: &mut Desk<'_>,
+    desk: &mut Desk,
     at: Pos,
     kind: FaultKind,
     sink: &mut K,
@@ -119,7 +119,7 @@ fn tell_fault<K: Sink>(
 /// Fetches the text of a name and opens it; `at` is the place that one that is too long is told at.
 fn ask<S: Shelf, K: Sink>(
     alloc: Global,
-    desk: &mut Desk<'_>,
+    desk: &mut Desk,
     at: Pos,
     name: &str,
     shelf: &mut S,
@@ -145,7 +145,7 @@ fn ask<S: Shelf, K: Sink>(
 }
 
 /// Opens a text that was fetched, unless it is too long.
-fn open(alloc: Global, desk: &mut Desk<'_>, name: &str, text: Vec<u8>) -> Result<bool, AllocError>
+fn open(alloc: Global, desk: &mut Desk, name: &str, text: Vec<u8>) -> Result<bool, AllocError>
     ensures errors { desk.new.errors ≡ desk.old.errors }
     ensures opened { IfOk result (λ new. IsOpened (configuration_of desk.old) name.now text.items new (configuration_of desk.new)) }
 {
@@ -187,7 +187,7 @@ fn fault_kind(kind: SyntaxKind) -> FaultKind
 /// The file of the command line that comes next, or the end.
 fn next_file<S: Shelf, K: Sink>(
     alloc: Global,
-    desk: &mut Desk<'_>,
+    desk: &mut Desk,
     shelf: &mut S,
     sink: &mut K,
 ) -> Flow
@@ -201,25 +201,26 @@ fn next_file<S: Shelf, K: Sink>(
     ensures sink_later { K.faults sink.old ≤ K.faults sink.new }
     ensures sink_cause { result ≡ End SinkFailed → Rose (K.faults sink.old) (K.faults sink.new) }
 {
-    let named = desk.named.as_slice();
-    if desk.next >= named.len() {
+    if desk.next >= desk.named.len() {
         let status = if desk.errors { Status::Errors } else { Status::Clean };
         return Flow::End(status);
     }
-    let name = named[desk.next];
+    let Ok(name) = String::from_str(alloc, desk.named[desk.next].as_str()) else {
+        return Flow::End(Status::Memory);
+    };
     desk.next += 1;
     let at = Pos {
         file: desk.files.len(),
         line: 1,
         col: 1,
     };
-    ask(alloc, desk, at, name, shelf, sink)
+    ask(alloc, desk, at, name.as_str(), shelf, sink)
 }
 
 /// Runs a directive of the innermost text.
 fn run_directive<S: Shelf, K: Sink>(
     alloc: Global,
-    desk: &mut Desk<'_>,
+    desk: &mut Desk,
     directive: &Directive,
     shelf: &mut S,
     sink: &mut K,
@@ -254,7 +255,7 @@ fn run_directive<S: Shelf, K: Sink>(
 /// A syntax error is told, and its text isn't open any more.
 fn refuse_text<K: Sink>(
     alloc: Global,
-    desk: &mut Desk<'_>,
+    desk: &mut Desk,
     error: SyntaxError,
     sink: &mut K,
 ) -> Flow
@@ -274,18 +275,18 @@ fn refuse_text<K: Sink>(
 /// Reads on in a text that was the innermost one.
 fn read_on<S: Shelf, K: Sink>(
     alloc: Global,
-    desk: &mut Desk<'_>,
+    desk: &mut Desk,
     reader: Reader,
     shelf: &mut S,
     sink: &mut K,
 ) -> Flow
     requires shallow { length desk.old.open.items ≤ 16 }
-    requires going { AreGoing (record (configuration_of desk.old) { open = reader ∷ (configuration_of desk.old).open }) }
-    ensures moves { (t : Texts) → S.told shelf.old ≡ Some t → result ≢ End Status.Memory → result ≢ End SourceFailed → result ≢ End SinkFailed → (m : Move) × Moves t.texts (record (configuration_of desk.old) { open = reader ∷ (configuration_of desk.old).open }) m }
-    ensures did { (t : Texts) (m : Move) → S.told shelf.old ≡ Some t → Moves t.texts (record (configuration_of desk.old) { open = reader ∷ (configuration_of desk.old).open }) m → Did m result desk.old.errors desk.new.errors (configuration_of desk.new) (record { shelf = S.told shelf.old; sink = K.told sink.old }) (record { shelf = S.told shelf.new; sink = K.told sink.new }) }
+    requires going { AreGoing (record (configuration_of desk.old) { stack = reader ∷ (configuration_of desk.old).stack }) }
+    ensures moves { (t : Texts) → S.told shelf.old ≡ Some t → result ≢ End Status.Memory → result ≢ End SourceFailed → result ≢ End SinkFailed → (m : Move) × Moves t.texts (record (configuration_of desk.old) { stack = reader ∷ (configuration_of desk.old).stack }) m }
+    ensures did { (t : Texts) (m : Move) → S.told shelf.old ≡ Some t → Moves t.texts (record (configuration_of desk.old) { stack = reader ∷ (configuration_of desk.old).stack }) m → Did m result desk.old.errors desk.new.errors (configuration_of desk.new) (record { shelf = S.told shelf.old; sink = K.told sink.old }) (record { shelf = S.told shelf.new; sink = K.told sink.new }) }
     ensures going { result ≡ On → AreGoing (configuration_of desk.new) }
     ensures shallow { result ≡ On → length desk.new.open.items ≤ 17 }
-    ensures falls { result ≡ On → weight (configuration_of desk.new) < weight (record (configuration_of desk.old) { open = reader ∷ (configuration_of desk.old).open }) }
+    ensures falls { result ≡ On → weight (configuration_of desk.new) < weight (record (configuration_of desk.old) { stack = reader ∷ (configuration_of desk.old).stack }) }
     ensures source_later { S.faults shelf.old ≤ S.faults shelf.new }
     ensures source_cause { result ≡ End SourceFailed → Rose (S.faults shelf.old) (S.faults shelf.new) }
     ensures sink_later { K.faults sink.old ≤ K.faults sink.new }
@@ -307,7 +308,7 @@ fn read_on<S: Shelf, K: Sink>(
 /// The next step of a run.
 pub(crate) fn advance<S: Shelf, K: Sink>(
     alloc: Global,
-    desk: &mut Desk<'_>,
+    desk: &mut Desk,
     shelf: &mut S,
     sink: &mut K,
 ) -> Flow

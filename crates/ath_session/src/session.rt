@@ -6,7 +6,7 @@ ghost use Rattle.ath_syntax.specs.Stands.{IsDirective, IsPhrase, IsStatement};
 ghost use Rattle.ath_syntax.specs.Tree.{DirectiveTree, Phrase, Statement};
 ghost use Rattle.ath_reader.specs.Reading.{Answers};
 ghost use Rattle.ath_eval.specs.Evaluation.{outcome_of, place};
-ghost use Rattle.ath_eval.specs.World.{IsSmallValue};
+ghost use Rattle.ath_eval.specs.Arguments.{IsSmallValue};
 ghost use Rattle.ath_env.specs.Values.{IsIn, value_at, sentence_of};
 ghost use Rattle.ath_sorts.specs.Signature.{arity_of};
 ghost use Rattle.ath_terms.specs.Measure.{IsSmall};

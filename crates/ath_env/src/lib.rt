@@ -2,6 +2,8 @@
 #![tactic(auto)]
 
 pub mod lookup;
+#[cfg(test)]
+mod tests;
 pub mod value;
 
 pub use lookup::look_up;

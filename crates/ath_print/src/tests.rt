@@ -1,7 +1,5 @@
-ghost use Rattle.std.specs.Prelude.{◌≡◌, ◌<◌, [], IfOk, length, map};
-ghost use Rattle.ath_terms.specs.Trees.{Grows};
 ghost use Rattle.ath_env.specs.Values.{IsIn};
-ghost use Rattle.ath_print.specs.Stands.{IsArgumentIn, IsFaultIn, IsEventIn};
+ghost use Rattle.ath_print.specs.Stands.{IsEventIn};
 
 use super::*;
 use ath_env::Value;
@@ -57,22 +55,9 @@ fn expect_line(
 }
 
 #[test]
-fn places_and_arguments(rt: HostRuntime) -> Result<(), Fail> {
+fn places(rt: HostRuntime) -> Result<(), Fail> {
     let alloc = rt.alloc();
     let store = Store::new(alloc);
-    let symbols = Event::Symbols(Items::from_slice(alloc, &[A, B])?);
-    expect_line(&rt, &symbols, &store, "Symbols: A, B\n")?;
-    let two = Items::from_slice(alloc, &[FaultArg::Number(2), FaultArg::Number(3)])?;
-    let counted = Fault {
-        kind: FaultKind::ArgCount,
-        args: two,
-    };
-    expect_line(
-        &rt,
-        &Event::Error(AT, counted),
-        &store,
-        "Error: \"x.ath\":2:31: ArgCount 2 3\n",
-    )?;
     let unbound = Fault {
         kind: FaultKind::Unbound,
         args: Items::from_slice(alloc, &[FaultArg::Name(B)])?,
@@ -88,6 +73,31 @@ fn places_and_arguments(rt: HostRuntime) -> Result<(), Fail> {
         &store,
         "Error: \"a \\\"b\\\"\\\\c\\td\\x01\\x7f.ath\":1:7: Unbound B\n",
     )?;
+    expect_line(
+        &rt,
+        &Event::Fuel(AT),
+        &store,
+        "Fuel: \"x.ath\":2:31: out of fuel\n",
+    )?;
+    Ok(())
+}
+
+#[test]
+fn arguments(rt: HostRuntime) -> Result<(), Fail> {
+    let alloc = rt.alloc();
+    let store = Store::new(alloc);
+    let symbols = Event::Symbols(Items::from_slice(alloc, &[A, B])?);
+    expect_line(&rt, &symbols, &store, "Symbols: A, B\n")?;
+    let counted = Fault {
+        kind: FaultKind::ArgCount,
+        args: Items::from_slice(alloc, &[FaultArg::Number(2), FaultArg::Number(3)])?,
+    };
+    expect_line(
+        &rt,
+        &Event::Error(AT, counted),
+        &store,
+        "Error: \"x.ath\":2:31: ArgCount 2 3\n",
+    )?;
     let unbuilt = Fault {
         kind: FaultKind::NotBuilt,
         args: Items::new(alloc),
@@ -97,12 +107,6 @@ fn places_and_arguments(rt: HostRuntime) -> Result<(), Fail> {
         &Event::Error(AT, unbuilt),
         &store,
         "Error: \"x.ath\":2:31: NotBuilt\n",
-    )?;
-    expect_line(
-        &rt,
-        &Event::Fuel(AT),
-        &store,
-        "Fuel: \"x.ath\":2:31: out of fuel\n",
     )?;
     Ok(())
 }

@@ -1,5 +1,6 @@
 mod Carried
 mod Endings
+mod Growth
 mod KnownTokens
 mod Landings
 mod Numbered

@@ -1,20 +1,17 @@
 -- What a tree that is read gives when its parts are numbered.
-use Rattle.std.proofs.Common.{◌≡◌, ℕ, ◌≤◌, List, [], ◌∷◌, length, ap, Option, Some, None, Ok, Err, ◌⊎◌, inl, inr, sym, subst, refl}
+use Rattle.std.proofs.Common.{◌≡◌, ℕ, ◌≤◌, List, length, ap, Some, Ok, Err, inl, refl}
 use Rattle.ath_syntax.specs.declared.directive.Directive.{Directive}
 use Rattle.ath_syntax.specs.Nodes as syntax
 use Rattle.ath_syntax.specs.Stands.{IsDirective}
 use Rattle.ath_automaton.specs.declared.tree.DirectiveTree as read
 use Rattle.ath_automaton.specs.Trees.{directive_of}
 use Rattle.ath_names.specs.Names.{IsTable, Grows, first_names}
-use Rattle.ath_names.proofs.NamesLaws.{Grows-refl, Grows-trans}
 use Rattle.ath_numbering.specs.Proper.{ProperDirective}
 use Rattle.ath_tokens.specs.Cutting.{Cutting}
-use Rattle.ath_reader.specs.Ahead.{Ahead, a_token, the_end, a_fault, ahead, reads_none, reads_more, names_past}
 use Rattle.ath_reader.specs.declared.reader.SyntaxError.{SyntaxError}
 use Rattle.ath_reader.specs.declared.reader.SyntaxKind.TheVariants.{Memory}
-use Rattle.ath_reader.specs.Reading.{Front, IsWhole}
 use Rattle.ath_reader.specs.Steps.{reading_of, ReadsTree, NumbersTree}
-use Rattle.ath_reader.proofs.KnownTokens.{reads_grow}
+use Rattle.ath_reader.proofs.Growth.{front_grows}
 use Rattle.ath_reader.proofs.ProperRead.{whole_is_proper}
 
 module _ (old : Cutting) (names : List (List ℕ)) (tree : read.DirectiveTree) (new : Cutting) (names' : List (List ℕ)) (found : ReadsTree old names (Ok (Some tree)) new names') where
@@ -25,18 +22,13 @@ module _ (old : Cutting) (names : List (List ℕ)) (tree : read.DirectiveTree) (
   pub found_numbered : (s s' : syntax.Nodes) (d : Directive) → IsDirective s' d (directive_of tree) → syntax.Grows s s' → NumbersTree old names s (Ok (Some d)) new names' s'
   found_numbered s s' d stands kept = (found.0.to, record { front = found.0; tree = directive_of tree; whole = found.1; stands = stands; end = refl; after = found.2 }, kept, found.3)
 
-  past_grows : (next : Ahead) (known : List (List ℕ)) (from : ℕ) → ahead old.file old.text known from ≡ next → Grows known (names_past next known)
-  past_grows (a_token t last to) known from e = reads_grow old.file old.text known from (t ∷ []) last to (reads_more e reads_none)
-  past_grows the_end known from e = Grows-refl known
-  past_grows (a_fault kind byte) known from e = Grows-refl known
-
   pub found_wants : (s s' : syntax.Nodes) (e : SyntaxError) → e.kind ≡ Memory → syntax.Grows s s' → NumbersTree old names s (Err e) new names' s'
-  found_wants s s' e kind kept = let f = found.0 in (
+  found_wants s s' e kind kept = (
     ap (λ (c : Cutting). c.text) found.3,
     ap (λ (c : Cutting). c.file) found.3,
     inl (record {
       kind = kind;
-      names_kept = subst (Grows names) (sym found.2) (Grows-trans (reads_grow old.file old.text names old.at f.tokens f.known f.to f.read) (past_grows f.next f.known f.to f.comes));
+      names_kept = front_grows (reading_of old) names old.at names' found.0 found.2;
       phrases_kept = kept;
     }),
   )

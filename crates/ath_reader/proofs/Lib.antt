@@ -1,6 +1,7 @@
 pub mod Advance
 mod Carried
 mod Endings
+mod Growth
 mod KnownTokens
 mod Landings
 pub mod NextAnswers

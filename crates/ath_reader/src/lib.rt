@@ -9,3 +9,6 @@ mod reader;
 
 pub use operators::OpTable;
 pub use reader::{Reader, SyntaxError, SyntaxKind};
+
+#[cfg(test)]
+mod tests;

@@ -4,6 +4,7 @@ ghost use Rattle.std.specs.Prelude.{◌≡◌, ◌≤◌, None, length};
 ghost use Rattle.ath_grammar.specs.Machine.{level_of, at_end};
 ghost use Rattle.ath_grammar.specs.Tokens.{at};
 ghost use Rattle.ath_names.specs.Names.{Grows as NamesGrow, first_names};
+ghost use Rattle.ath_syntax.specs.Nodes.{Grows};
 ghost use Rattle.ath_reader.specs.Automata.{standing_of};
 ghost use Rattle.ath_reader.specs.Reading.{Answers, reached};
 ghost use Rattle.ath_reader.specs.Steps.{Looks, Takes, Lasts, Turns, ReadsTree, NumbersTree, is_end};
@@ -95,7 +96,9 @@ impl Reader {
         _operators: &OpTable,
     ) -> Result<Option<Directive>, SyntaxError>
         requires { NamesGrow first_names names.old }
-        ensures { Answers self.old self.old.progress names.old phrases.old result self.new names.new phrases.new }
+        ensures answers { Answers self.old self.old.progress names.old phrases.old result self.new names.new phrases.new }
+        ensures names { NamesGrow names.old names.new }
+        ensures phrases { Grows phrases.old phrases.new }
     {
         if let Some(error) = self.refused {
             return Err(error);

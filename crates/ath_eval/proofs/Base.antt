@@ -8,6 +8,9 @@ use Rattle.ath_terms.specs.Trees.{Trees, sent_at, Grows}
 use Rattle.ath_terms.specs.Measure.{IsSmall}
 use Rattle.ath_terms.proofs.SameLaws.{same_sent_is}
 use Rattle.ath_eval.specs.Base.{sents_of, AreIn}
+use Rattle.ath_eval.specs.declared.setting.Setting.{Setting}
+use Rattle.ath_eval.specs.Outcomes.{Context}
+use Rattle.ath_eval.specs.Settings.{reading}
 use Rattle.ath_eval.specs.Methods.{holds}
 
 module _ (s : Trees) (ids : List SentId) (i : ℕ) (d : SentId) (p : Sent) (whole : Bool) (h : i < length ids) (so_far : whole ≡ holds (sents_of s (drop i ids)) p) where
@@ -34,3 +37,9 @@ module _ (s t : Trees) (g : Grows s t) where
 
   pub base_grows : (ids : List SentId) → AreIn s ids → AreIn t ids
   base_grows ids h = λ k d lt. let here = h k d lt in (omega (arith, g.sents, here.0), subst (λ (p : Sent). IsSmall p) (sym (g.same_sents (get_or ids k d).0 here.0)) here.1)
+
+abbrev context : Setting → List Sent → Context
+context r ps = record { names = r.names.now; signature = r.sig.now; base = ps }
+
+pub reading_grows : (r : Setting) (s t : Trees) → Grows s t → AreIn s r.base.now → reading r t ≡ reading r s
+reading_grows r s t g h = ap (context r) (sents_grow s t g r.base.now h)

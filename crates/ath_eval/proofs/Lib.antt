@@ -1,5 +1,9 @@
 pub mod Arguments
 pub mod Base
 pub mod Counts
-pub mod Parts
+pub mod Frames
+pub mod Joined
 pub mod Ponens
+pub mod Returns
+pub mod Shapes
+pub mod Stretches

@@ -2,14 +2,15 @@
 
 ghost use Rattle.std.specs.Prelude.{◌<◌, [], ◌∷◌, length, IfOk};
 ghost use Rattle.ath_terms.specs.Trees.{Trees, sent_at};
-ghost use Rattle.ath_print.specs.declared.fault.FaultKind.TheVariants.{ArgCount};
-ghost use Rattle.ath_print.specs.Events.{number_named};
+ghost use Rattle.ath_print.specs.declared.fault.FaultKind.TheVariants.{ArgCount, Unbound};
+ghost use Rattle.ath_print.specs.Events.{name_named, number_named};
 ghost use Rattle.ath_eval.specs.Outcomes.{fails, refusal};
 ghost use Rattle.ath_eval.specs.Methods.{not_in_base};
 ghost use Rattle.ath_eval.specs.World.{IsAnswer};
 
 use crate::world::Outcome;
 use ath_print::{Fault, FaultArg, FaultKind};
+use ath_sorts::Sym;
 use ath_syntax::Pos;
 use ath_terms::{SentId, Store};
 use std::alloc::{AllocError, Global};
@@ -60,5 +61,13 @@ pub(crate) fn missing(
 {
     let _store = store;
     let fault = Fault::naming(alloc, FaultKind::NotInBase, &[FaultArg::Sent(p)])?;
+    Ok(Outcome::Error(at, fault))
+}
+
+/// A name that finds nothing.
+pub(crate) fn unbound(alloc: Global, name: Sym, at: Pos) -> Result<Outcome, AllocError>
+    ensures { IfOk result (λ o. (s : Trees) → IsAnswer s o (fails at (refusal Unbound (name_named name ∷ [])))) }
+{
+    let fault = Fault::naming(alloc, FaultKind::Unbound, &[FaultArg::Name(name)])?;
     Ok(Outcome::Error(at, fault))
 }

@@ -5,3 +5,5 @@ pub mod Grow
 pub mod SameLaws
 pub mod Parts
 pub mod ConnParts
+pub mod Measures
+mod Rows

@@ -2,8 +2,12 @@
 #![tactic(auto)]
 
 pub mod equality;
+pub mod measure;
 pub mod node;
 pub mod store;
 
+pub use measure::{
+    BuildError, MOST_LEVELS, MOST_NODES, join, sent_depth, sent_size, term_depth, term_size,
+};
 pub use node::{Conn, Quant, SentId, SentNode, TermId, TermNode, Var};
 pub use store::Store;

@@ -1,10 +1,11 @@
 // The nodes and levels of trees, and building within the limits.
 
-ghost use Rattle.std.specs.Prelude.{◌≡◌, ◌<◌, ◌≤◌, length};
-ghost use Rattle.ath_terms.specs.Trees.{term_at, sent_at, Grows};
+ghost use Rattle.std.specs.Prelude.{◌≡◌, ◌<◌, ◌≤◌, length, IfOk};
+ghost use Rattle.ath_terms.specs.Trees.{term_at, sent_at, Grows, IsSent};
 ghost use Rattle.ath_terms.specs.Tree.{joined};
 ghost use Rattle.ath_terms.specs.Measure.{term_size, term_depth, sent_size, sent_depth, most_nodes, most_levels, IsSmall, IsBuilt};
 ghost use Rattle.ath_terms.specs.declared.node.Conn.TheVariants.{Not};
+ghost use Rattle.ath_terms.specs.declared.measure.BuildError.TheVariants.{Memory};
 
 use crate::node::{Conn, SentId, SentNode, TermId, TermNode};
 use crate::store::Store;
@@ -29,4 +30,140 @@ pub enum BuildError {
     TooDeep(u64),
     #[error("out of memory")]
     Memory,
+}
+
+impl From<AllocError> for BuildError {
+    ghost from_gives = { λ _ e. e ≡ Memory };
+
+    fn from(_error: AllocError) -> BuildError {
+        BuildError::Memory
+    }
+}
+
+/// The nodes of a term.
+pub fn term_size(store: &Store, t: TermId) -> u64
+    requires inside { t.0 < length store.now.terms }
+    requires small { term_size (term_at store.now.terms t.0) ≤ most_nodes }
+    ensures { result ≡ term_size (term_at store.now.terms t.0) }
+{
+    match store.term(t) {
+        TermNode::Var(_) => 1,
+        TermNode::App(_, _, args) => {
+            let parts = args.as_slice();
+            let mut nodes: u64 = 1;
+            for i in 0..parts.len() {
+                nodes += term_size(store, parts[i]);
+            }
+            nodes
+        }
+    }
+}
+
+/// The levels of a term.
+pub fn term_depth(store: &Store, t: TermId) -> u64
+    requires inside { t.0 < length store.now.terms }
+    requires small { term_depth (term_at store.now.terms t.0) ≤ most_levels }
+    ensures { result ≡ term_depth (term_at store.now.terms t.0) }
+{
+    match store.term(t) {
+        TermNode::Var(_) => 1,
+        TermNode::App(_, _, args) => {
+            let parts = args.as_slice();
+            let mut levels: u64 = 0;
+            for i in 0..parts.len() {
+                levels = levels.max(term_depth(store, parts[i]));
+            }
+            1 + levels
+        }
+    }
+}
+
+/// The nodes of a sentence.
+pub fn sent_size(store: &Store, p: SentId) -> u64
+    requires inside { p.0 < length store.now.sents }
+    requires small { sent_size (sent_at store.now.sents p.0) ≤ most_nodes }
+    ensures { result ≡ sent_size (sent_at store.now.sents p.0) }
+{
+    match store.sent(p) {
+        SentNode::Atom(t) => term_size(store, *t),
+        SentNode::Eq(s, t) => 1 + term_size(store, *s) + term_size(store, *t),
+        SentNode::Conn(_, ids) => {
+            let parts = ids.as_slice();
+            let mut nodes: u64 = 1;
+            for i in 0..parts.len() {
+                nodes += sent_size(store, parts[i]);
+            }
+            nodes
+        }
+        SentNode::Quant(_, _, body) => 1 + sent_size(store, *body),
+    }
+}
+
+/// The levels of a sentence.
+pub fn sent_depth(store: &Store, p: SentId) -> u64
+    requires inside { p.0 < length store.now.sents }
+    requires small { sent_depth (sent_at store.now.sents p.0) ≤ most_levels }
+    ensures { result ≡ sent_depth (sent_at store.now.sents p.0) }
+{
+    match store.sent(p) {
+        SentNode::Atom(t) => term_depth(store, *t),
+        SentNode::Eq(s, t) => 1 + term_depth(store, *s).max(term_depth(store, *t)),
+        SentNode::Conn(_, ids) => {
+            let parts = ids.as_slice();
+            let mut levels: u64 = 0;
+            for i in 0..parts.len() {
+                levels = levels.max(sent_depth(store, parts[i]));
+            }
+            1 + levels
+        }
+        SentNode::Quant(_, _, body) => 1 + sent_depth(store, *body),
+    }
+}
+
+fn add_joined(
+    alloc: Global,
+    store: &mut Store,
+    conn: Conn,
+    p: SentId,
+    q: SentId,
+) -> Result<SentId, AllocError>
+    requires two { conn ≡ Not → ⊥ }
+    requires left { p.0 < length store.old.sents }
+    requires right { q.0 < length store.old.sents }
+    ensures grows { Grows store.old store.new }
+    ensures tree { IfOk result (λ r. IsSent store.new r.0 (joined conn (sent_at store.old.sents p.0) (sent_at store.old.sents q.0))) }
+{
+    let mut parts = Items::new(alloc);
+    parts.push(p)?;
+    parts.push(q)?;
+    let sent = store.add_sent(SentNode::Conn(conn, parts))?;
+    Ok(sent)
+}
+
+/// The connective of two parts.
+pub fn join(
+    alloc: Global,
+    store: &mut Store,
+    conn: Conn,
+    p: SentId,
+    q: SentId,
+) -> Result<SentId, BuildError>
+    requires two { conn ≡ Not → ⊥ }
+    requires left { p.0 < length store.old.sents }
+    requires right { q.0 < length store.old.sents }
+    requires left_small { IsSmall (sent_at store.old.sents p.0) }
+    requires right_small { IsSmall (sent_at store.old.sents q.0) }
+    ensures grows { Grows store.old store.new }
+    ensures built { IsBuilt store.new result (joined conn (sent_at store.old.sents p.0) (sent_at store.old.sents q.0)) }
+{
+    let nodes = 1 + sent_size(store, p) + sent_size(store, q);
+    if MOST_NODES < nodes {
+        return Err(BuildError::TooLarge(nodes));
+    }
+    let levels = 1 + sent_depth(store, p).max(sent_depth(store, q));
+    if MOST_LEVELS < levels {
+        return Err(BuildError::TooDeep(levels));
+    }
+    let sent = add_joined(alloc, store, conn, p, q)?;
+    Ok(sent)
 }

@@ -7,7 +7,7 @@ use Rattle.ath_terms.specs.declared.node.Quant.{Quant as Quantifier}
 use Rattle.ath_terms.specs.declared.node.SentId.{SentId}
 use Rattle.ath_terms.specs.Tree.{Term, Sent, atom}
 use Rattle.ath_terms.specs.Trees.{Trees, term_at, sent_at, IsSent}
-use Rattle.ath_env.specs.declared.value.Value as code
+use Rattle.ath_env.specs.declared.value.Value.{Value as Coded}
 use Rattle.ath_env.specs.declared.value.Value.TheVariants as code
 
 -- a sentence that is a value by itself is no atom: an atom is the value of its term
@@ -32,7 +32,7 @@ sentence_of (a_quantifier q) = None
 sentence_of a_back = None
 sentence_of (a_method n) = None
 
-abbrev pub value_at : Trees → code.Value → Value
+abbrev pub value_at : Trees → Coded → Value
 value_at s (code.Term t) = a_term (term_at s.terms t.0)
 value_at s (code.Sent p) = a_sentence (sent_at s.sents p.0)
 value_at s (code.Symbol f) = a_symbol f
@@ -42,7 +42,7 @@ value_at s code.Back = a_back
 value_at s (code.PrimMethod n) = a_method n
 
 -- the number in a value is one of the store
-abbrev pub IsIn : Trees → code.Value → Type 0
+abbrev pub IsIn : Trees → Coded → Type 0
 IsIn s (code.Term t) = t.0 < length s.terms
 IsIn s (code.Sent p) = p.0 < length s.sents
 IsIn s (code.Symbol f) = Unit {0}
@@ -51,11 +51,11 @@ IsIn s (code.Quant q) = Unit {0}
 IsIn s code.Back = Unit {0}
 IsIn s (code.PrimMethod n) = Unit {0}
 
-abbrev pub IsValue : Trees → code.Value → Value → Type 0
+abbrev pub IsValue : Trees → Coded → Value → Type 0
 IsValue s v x = IsIn s v × (value_at s v ≡ x)
 
 -- the values stand for these, one by one
-abbrev pub AreValues : Trees → List code.Value → List Value → Type 0
+abbrev pub AreValues : Trees → List Coded → List Value → Type 0
 AreValues s vs xs = All (IsIn s) vs × (map (value_at s) vs ≡ xs)
 
 -- the sentence that is found is this one, or there is none
@@ -66,7 +66,7 @@ IsSentenceOf s None (Some x) = ⊥
 IsSentenceOf s (Some p) None = ⊥
 
 -- the value that is found stands for this one, or there is none
-abbrev pub IsFound : Trees → Option code.Value → Option Value → Type 0
+abbrev pub IsFound : Trees → Option Coded → Option Value → Type 0
 IsFound s None None = Unit {0}
 IsFound s (Some v) (Some x) = IsValue s v x
 IsFound s None (Some x) = ⊥

@@ -1,5 +1,5 @@
 -- What the code's faults and events stand for.
-use Rattle.std.specs.Prelude.{◌≡◌, ℕ, ◌<◌, List, map, length}
+use Rattle.std.specs.Prelude.{◌≡◌, ◌<◌, map, length}
 use Rattle.std.specs.List.{All}
 use Rattle.ath_terms.specs.Trees.{Trees, sent_at}
 use Rattle.ath_env.specs.Values.{value_at, IsIn as IsValueIn}

@@ -3,8 +3,12 @@
 
 pub mod event;
 pub mod fault;
-pub mod line;
+pub mod lines;
+mod pieces;
+#[cfg(test)]
+mod tests;
+mod words;
 
 pub use event::Event;
 pub use fault::{Fault, FaultArg, FaultKind};
-pub use line::line;
+pub use lines::line;

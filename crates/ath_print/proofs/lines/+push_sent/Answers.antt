@@ -1,7 +1,7 @@
 use Rattle.std.proofs.Common.{◌≡◌, length, codes, rules}
 use Rattle.ath_terms.specs.declared.node.Conn.TheVariants.{Not}
-use Rattle.ath_print.proofs.Base.{joined_of, pieces}
-use Rattle.ath_print.proofs.print.+push_sent.Goals as goal
+use Rattle.ath_print.proofs.LineLaws.{joined_of, pieces}
+use Rattle.ath_print.proofs.lines.+push_sent.Goals as goal
 
 pub returns-in_ok-push-in-Conn-6 : goal.returns-in_ok-push-in-Conn-6
 returns-in_ok-push-in-Conn-6 t c =

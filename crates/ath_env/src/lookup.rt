@@ -3,7 +3,7 @@
 ghost use Rattle.std.specs.Prelude.{◌≡◌, ◌<◌, length, Option, IfOk, map};
 ghost use Rattle.std.specs.Map.{lookup};
 ghost use Rattle.std.specs.Str.{bytes_eq};
-ghost use Rattle.ath_terms.specs.Trees.{Grows};
+ghost use Rattle.ath_terms.specs.Trees.{Trees, Grows};
 ghost use Rattle.ath_env.specs.LookUp.{looked_up, first_values};
 ghost use Rattle.ath_env.specs.Values.{IsFound};
 
@@ -27,6 +27,24 @@ const FIRST_VALUES: [(&str, Value); 11] = [
     ("=", Value::Symbol(Sym(3))),
     ("<==", Value::Back),
 ];
+
+fn find_in(table: &[(&str, Value)], text: &str) -> Option<Value>
+    ensures { result ≡ lookup (bytes_eq text.now) (map (λ row. (row.0.now, row.1)) table.now) }
+{
+    for (word, value) in table {
+        if text == *word {
+            return Some(*value);
+        }
+    }
+    None
+}
+
+// None of these values has a term or a sentence, so it stands for the same in every store.
+fn first_value(text: &str) -> Option<Value>
+    ensures { (s : Trees) → IsFound s result (lookup (bytes_eq text.now) first_values) }
+{
+    find_in(&FIRST_VALUES, text)
+}
 
 /// The value that a name finds: the constant of a declared symbol, or what every script begins with under this name.
 pub fn look_up(

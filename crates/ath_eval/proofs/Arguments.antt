@@ -1,17 +1,12 @@
 -- Values as arguments, while the store grows.
-use Rattle.std.proofs.Common.{◌≡◌, ℕ, zero, suc, ◌+◌, ◌<◌, ◌≤◌, List, [], ◌∷◌, ◌++◌, length, get_or, Option, Some, None, refl, sym, ap, ◌∙◌, subst, arith}
-use Rattle.ath_syntax.specs.declared.place.Pos.{Pos}
+use Rattle.std.proofs.Common.{◌≡◌, ◌<◌, List, [], ◌∷◌, ◌++◌, length, get_or, Option, Some, None, refl, sym, ap, ◌∙◌, subst, arith}
 use Rattle.ath_terms.specs.declared.node.SentId.{SentId}
 use Rattle.ath_terms.specs.Tree.{Sent}
-use Rattle.ath_terms.specs.Trees.{Trees, sent_at, IsSent, Grows}
-use Rattle.ath_terms.specs.Measure.{IsSmall}
+use Rattle.ath_terms.specs.Trees.{Trees, sent_at, Grows}
 use Rattle.ath_env.specs.declared.value.Value as value
 use Rattle.ath_env.specs.declared.value.Value.TheVariants.{Term, Sent as Sentence, Symbol, Conn, Quant, Back, PrimMethod}
-use Rattle.ath_env.specs.Values.{Value, IsIn, value_at, IsValue, sentence_of, IsSentenceOf}
-use Rattle.ath_eval.specs.declared.world.Outcome as code
+use Rattle.ath_env.specs.Values.{Value, IsIn, value_at, IsSentenceOf}
 use Rattle.ath_eval.specs.Arguments.{IsSmallValue, IsArgument, IsGood, AreArguments}
-use Rattle.ath_eval.specs.Outcomes.{Outcome}
-use Rattle.ath_eval.specs.World.{IsAnswer}
 
 module _ (s t : Trees) (g : Grows s t) where
   pub in_grows : (v : value.Value) → IsIn s v → IsIn t v

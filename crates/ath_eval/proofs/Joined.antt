@@ -1,12 +1,12 @@
 -- The parts of an implication.
-use Rattle.std.proofs.Common.{◌≡◌, ℕ, ◌+◌, List, [], ◌∷◌, length, get_or, refl, sym, ◌∙◌, arith}
+use Rattle.std.proofs.Common.{◌≡◌, ℕ, List, [], ◌∷◌, length, get_or, refl, sym, ◌∙◌, arith}
 use Rattle.ath_terms.specs.declared.node.SentId.{SentId}
 use Rattle.ath_terms.specs.declared.node.Conn.{Conn}
 use Rattle.ath_terms.specs.declared.node.Conn.TheVariants.{Not, And, Or, If, Iff}
 use Rattle.ath_terms.specs.declared.node.SentNode.{SentNode}
 use Rattle.ath_terms.specs.declared.node.SentNode.TheVariants.{Conn as ConnNode}
 use Rattle.ath_terms.specs.Nodes.{arity, conn_tree, sent_tree, IsSentBelow}
-use Rattle.ath_terms.specs.Tree.{Sent, joined}
+use Rattle.ath_terms.specs.Tree.{joined}
 use Rattle.ath_terms.specs.Trees.{Trees, sent_at}
 use Rattle.ath_eval.specs.Base.{sents_of}
 

@@ -1,10 +1,10 @@
 -- What modus ponens answers.
-use Rattle.std.proofs.Common.{◌≡◌, ◌↔◌, ℕ, ◌+◌, ◌≤◌, Bool, true, false, List, Option, refl, sym, ◌∙◌, subst, arith}
+use Rattle.std.proofs.Common.{◌≡◌, ◌↔◌, ℕ, Bool, true, false, List, Option, refl, sym, ◌∙◌, subst, arith}
 use Rattle.ath_syntax.specs.declared.place.Pos.{Pos}
 use Rattle.ath_terms.specs.declared.node.Conn.TheVariants.{If}
 use Rattle.ath_terms.specs.Tree.{Sent, joined}
 use Rattle.ath_terms.specs.Trees.{Trees}
-use Rattle.ath_terms.specs.Measure.{IsSmall, sent_size, sent_depth}
+use Rattle.ath_terms.specs.Measure.{IsSmall}
 use Rattle.ath_terms.specs.Same.{same_sent}
 use Rattle.ath_terms.proofs.SameLaws.{same_sent_is}
 use Rattle.ath_eval.specs.declared.world.Outcome as code

@@ -1,5 +1,5 @@
 -- Frames get their outcomes.
-use Rattle.std.proofs.Common.{◌≡◌, ℕ, ◌+◌, ◌*◌, ◌<◌, ◌≤◌, List, [], ◌∷◌, ◌++◌, length, length-append, drop, Option, Some, refl, sym, ap, ◌∙◌, subst, arith}
+use Rattle.std.proofs.Common.{◌≡◌, ℕ, ◌+◌, ◌*◌, ◌<◌, List, [], ◌∷◌, ◌++◌, length, length-append, refl, sym, ap, ◌∙◌, subst, arith}
 use Rattle.ath_syntax.specs.declared.place.Pos.{Pos}
 use Rattle.ath_syntax.specs.declared.node.PhraseId.{PhraseId}
 use Rattle.ath_syntax.specs.Nodes.{Nodes}
@@ -12,14 +12,13 @@ use Rattle.ath_env.specs.declared.value.Value as value
 use Rattle.ath_env.specs.declared.value.Value.TheVariants.{Sent as Sentence}
 use Rattle.ath_env.specs.Values.{Value, a_sentence}
 use Rattle.ath_print.specs.declared.fault.Fault.{Fault}
-use Rattle.ath_print.specs.Events.{Refusal}
 use Rattle.ath_eval.specs.declared.frame.Frame.{Frame}
 use Rattle.ath_eval.specs.declared.frame.Frame.TheVariants.{Head, Argument}
 use Rattle.ath_eval.specs.declared.frame.State.{State}
-use Rattle.ath_eval.specs.declared.frame.State.TheVariants.{Enter, Done}
+use Rattle.ath_eval.specs.declared.frame.State.TheVariants.{Done}
 use Rattle.ath_eval.specs.declared.world.Outcome as code
 use Rattle.ath_eval.specs.declared.world.Outcome.TheVariants as ends
-use Rattle.ath_eval.specs.Arguments.{IsArgument, AreArguments}
+use Rattle.ath_eval.specs.Arguments.{IsArgument}
 use Rattle.ath_eval.specs.Evaluation.{evaluated}
 use Rattle.ath_eval.specs.Machine.{acts, arguments, Fills, Resumes, Means, ArgumentsMean, FrameMeans, rank, weight}
 use Rattle.ath_eval.specs.Outcomes.{Context, Outcome, gives, concludes, fails, exhausts, and_then, each}

@@ -1,5 +1,5 @@
 -- What the node of a phrase tells of its evaluation.
-use Rattle.std.proofs.Common.{◌≡◌, ℕ, List, [], Option, Some, refl, sym, ap, ◌∙◌, subst}
+use Rattle.std.proofs.Common.{◌≡◌, ℕ, List, [], Option, Some, refl, sym, subst}
 use Rattle.std.specs.Prelude.{slice_get}
 use Rattle.ath_sorts.specs.declared.sorts.Sym.{Sym}
 use Rattle.ath_syntax.specs.declared.place.Pos.{Pos}
@@ -8,15 +8,15 @@ use Rattle.ath_syntax.specs.declared.node.Form.{Form}
 use Rattle.ath_syntax.specs.declared.node.Form.TheVariants.{Name, Apply, Call}
 use Rattle.ath_syntax.specs.declared.node.Node.{Node}
 use Rattle.ath_syntax.specs.Nodes.{Nodes}
-use Rattle.ath_syntax.specs.Tree.{Phrase, Phrases, no_phrases}
+use Rattle.ath_syntax.specs.Tree.{Phrase}
 use Rattle.ath_syntax.specs.Stands.{IsPhrase, IsForm, is_name, is_variable, is_string, is_list, is_ascribe, is_apply, is_call, is_lambda, is_method, is_let, is_letrec, is_match, is_check, is_try, is_seq, is_assume, is_absurd, is_pick_any, is_pick_witness, is_induct, is_cases, is_conclude, ArePhrases, phrases_none}
 use Rattle.ath_syntax.proofs.NodeLaws.{node_of, node_at, form_of}
 use Rattle.ath_env.specs.LookUp.{looked_up}
 use Rattle.ath_env.specs.Values.{Value}
-use Rattle.ath_eval.specs.Evaluation.{evaluated, form, found, place, unbuilt}
+use Rattle.ath_eval.specs.Evaluation.{form, found, place, unbuilt}
 use Rattle.ath_eval.specs.Machine.{acts, arguments, form_arguments, node_arguments, arguments_at}
 use Rattle.ath_eval.specs.Methods.{applied, called}
-use Rattle.ath_eval.specs.Outcomes.{Context, Outcome, Evaluator, and_then, each}
+use Rattle.ath_eval.specs.Outcomes.{Context, Evaluator, and_then, each}
 
 module _ (nodes : Nodes) where
   pub form_here : (i : PhraseId) (n : Node) (x : Phrase) → IsPhrase nodes i x → slice_get nodes.phrases i.0 ≡ Some n → IsForm nodes n.pos n.form x

@@ -1,10 +1,8 @@
 -- The machine's stretches of work, one by one.
-use Rattle.std.proofs.Common.{◌≡◌, ℕ, zero, suc, ◌+◌, ◌-◌, ◌*◌, ◌<◌, ◌≤◌, List, [], ◌∷◌, ◌++◌, length, drop, Option, Some, None, Result, IfOk, refl, sym, ap, ◌∙◌, subst, arith, length-append}
+use Rattle.std.proofs.Common.{◌≡◌, ℕ, zero, suc, ◌+◌, ◌-◌, ◌*◌, ◌<◌, ◌≤◌, List, [], ◌∷◌, ◌++◌, length, drop, Some, None, refl, sym, ap, ◌∙◌, subst, arith, length-append}
 use Rattle.std.specs.Prelude.{slice_get}
-use Rattle.std.proofs.lemmas.Result.{IfOk-weaker}
 use Rattle.ath_sorts.specs.declared.sorts.Sym.{Sym}
 use Rattle.ath_syntax.specs.declared.node.PhraseId.{PhraseId}
-use Rattle.ath_syntax.specs.declared.node.Form.{Form}
 use Rattle.ath_syntax.specs.declared.node.Form.TheVariants.{Name, Apply, Call}
 use Rattle.ath_syntax.specs.declared.node.Node.{Node}
 use Rattle.ath_syntax.specs.Nodes.{Nodes}
@@ -24,7 +22,7 @@ use Rattle.ath_eval.specs.declared.world.Outcome as code
 use Rattle.ath_eval.specs.declared.world.Outcome.TheVariants as ends
 use Rattle.ath_eval.specs.Arguments.{IsArgument, AreArguments}
 use Rattle.ath_eval.specs.Evaluation.{evaluated, form, found, place, unbuilt}
-use Rattle.ath_eval.specs.Machine.{acts, arguments, arguments_at, Fills, Resumes, Means, Steps, FormMeans, ArgumentsMean, rank, weight}
+use Rattle.ath_eval.specs.Machine.{acts, arguments_at, Resumes, Means, Steps, FormMeans, ArgumentsMean, rank, weight}
 use Rattle.ath_eval.specs.Outcomes.{Context, Outcome, fails, exhausts, refusal, each}
 use Rattle.ath_eval.specs.World.{IsOutcome, IsAnswer}
 use Rattle.ath_eval.proofs.Frames.{drop_at, drop_end, resumes_push, grow_resumes}

@@ -32,5 +32,5 @@ TakesArguments r s i h done levels fs t st gs = (fuel : ℕ) → Steps (reading 
 abbrev pub IsResumed : Setting → Trees → code.Outcome → Frame → List Frame → Type 0
 IsResumed r s o f fs = (fuel : ℕ) × (out : Outcome) × FrameMeans (reading r s) r.phrases.now s fuel o f fs out
 
-abbrev pub Resumes : Setting → Trees → code.Outcome → Frame → List Frame → Trees → State → List Frame → Type 0
-Resumes r s o f fs t st gs = (fuel : ℕ) → Steps (reading r s) r.phrases.now s (FrameMeans (reading r s) r.phrases.now s fuel o f fs) (4 * fuel + 2 * length fs + 2 + rank (Done o)) t fuel st gs
+abbrev pub ResumesFrame : Setting → Trees → code.Outcome → Frame → List Frame → Trees → State → List Frame → Type 0
+ResumesFrame r s o f fs t st gs = (fuel : ℕ) → Steps (reading r s) r.phrases.now s (FrameMeans (reading r s) r.phrases.now s fuel o f fs) (4 * fuel + 2 * length fs + 2 + rank (Done o)) t fuel st gs

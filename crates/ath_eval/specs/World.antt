@@ -1,9 +1,5 @@
 -- What the world of an evaluation stands for, and its outcomes.
 use Rattle.std.specs.Prelude.{◌≡◌, ℕ}
-use Rattle.ath_syntax.specs.declared.node.PhraseId.{PhraseId}
-use Rattle.ath_syntax.specs.Nodes.{Nodes}
-use Rattle.ath_syntax.specs.Stands.{IsPhrase}
-use Rattle.ath_syntax.specs.Tree.{Phrase}
 use Rattle.ath_terms.specs.Trees.{Trees, IsSent, Grows}
 use Rattle.ath_terms.specs.Measure.{IsSmall}
 use Rattle.ath_env.specs.Values.{IsValue}

@@ -1,14 +1,13 @@
 // The machine: what waits for a part's outcome stands on a stack.
 
-ghost use Rattle.std.specs.Prelude.{◌<◌, ℕ, IfOk, length};
+ghost use Rattle.std.specs.Prelude.{IfOk};
 ghost use Rattle.ath_syntax.specs.Stands.{IsPhrase};
 ghost use Rattle.ath_syntax.specs.Tree.{Phrase as PhraseTree};
 ghost use Rattle.ath_terms.specs.Trees.{Grows};
 ghost use Rattle.ath_eval.specs.Base.{AreIn};
 ghost use Rattle.ath_env.specs.LookUp.{looked_up};
 ghost use Rattle.ath_eval.specs.Evaluation.{evaluated, found, outcome_of};
-ghost use Rattle.ath_eval.specs.Outcomes.{Outcome as OutcomeTree};
-ghost use Rattle.ath_eval.specs.Settings.{reading, Enters, EntersForm, TakesArguments, IsTaking, Resumes, IsResumed};
+ghost use Rattle.ath_eval.specs.Settings.{reading, Enters, EntersForm, TakesArguments, IsTaking, ResumesFrame, IsResumed};
 ghost use Rattle.ath_eval.specs.World.{IsAnswer, IsOutcome, context_of, Evaluates};
 ghost use Rattle.ath_eval.specs.declared.world.Outcome.TheVariants as ends;
 
@@ -145,7 +144,7 @@ fn resume_value(
     requires base { AreIn store.old set.now.base.now }
     requires known { IsResumed set.now store.old (ends.Value value) frame stack.old.items }
     ensures grows { Grows store.old store.new }
-    ensures steps { IfOk result (λ st. Resumes set.now store.old (ends.Value value) frame stack.old.items store.new st stack.new.items) }
+    ensures steps { IfOk result (λ st. ResumesFrame set.now store.old (ends.Value value) frame stack.old.items store.new st stack.new.items) }
 {
     match frame {
         Frame::Head(phrase, levels) => {
@@ -173,7 +172,7 @@ fn resume(
     requires base { AreIn store.old set.now.base.now }
     requires known { IsResumed set.now store.old outcome frame stack.old.items }
     ensures grows { Grows store.old store.new }
-    ensures steps { IfOk result (λ st. Resumes set.now store.old outcome frame stack.old.items store.new st stack.new.items) }
+    ensures steps { IfOk result (λ st. ResumesFrame set.now store.old outcome frame stack.old.items store.new st stack.new.items) }
 {
     match outcome {
         Outcome::Value(value) => {

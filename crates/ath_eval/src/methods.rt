@@ -130,7 +130,7 @@ fn conclude(
     if is_in_base(store, base, p) {
         return Ok(Outcome::Theorem(p));
     }
-    let outcome = missing(alloc, store, p, at)?;
+    let outcome = missing(alloc, p, at)?;
     Ok(outcome)
 }
 
@@ -199,11 +199,11 @@ fn detach(
         return Ok(outcome);
     }
     if !is_in_base(store, base, p) {
-        let outcome = missing(alloc, store, p, at)?;
+        let outcome = missing(alloc, p, at)?;
         return Ok(outcome);
     }
     if !is_in_base(store, base, q) {
-        let outcome = missing(alloc, store, q, at)?;
+        let outcome = missing(alloc, q, at)?;
         return Ok(outcome);
     }
     Ok(Outcome::Theorem(b))

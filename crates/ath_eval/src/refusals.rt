@@ -12,7 +12,7 @@ use crate::world::Outcome;
 use ath_print::{Fault, FaultArg, FaultKind};
 use ath_sorts::Sym;
 use ath_syntax::Pos;
-use ath_terms::{SentId, Store};
+use ath_terms::SentId;
 use std::alloc::{AllocError, Global};
 
 /// An error that names nothing.
@@ -50,16 +50,9 @@ pub(crate) fn miscounted(
 }
 
 /// The base lacks this sentence.
-pub(crate) fn missing(
-    alloc: Global,
-    store: &Store,
-    p: SentId,
-    at: Pos,
-) -> Result<Outcome, AllocError>
-    requires { p.0 < length store.now.sents }
-    ensures { IfOk result (λ o. IsAnswer store.now o (not_in_base (sent_at store.now.sents p.0) at)) }
+pub(crate) fn missing(alloc: Global, p: SentId, at: Pos) -> Result<Outcome, AllocError>
+    ensures { IfOk result (λ o. (s : Trees) → p.0 < length s.sents → IsAnswer s o (not_in_base (sent_at s.sents p.0) at)) }
 {
-    let _store = store;
     let fault = Fault::naming(alloc, FaultKind::NotInBase, &[FaultArg::Sent(p)])?;
     Ok(Outcome::Error(at, fault))
 }

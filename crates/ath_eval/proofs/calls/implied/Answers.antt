@@ -1,7 +1,7 @@
-use Rattle.std.proofs.Common.{◌≡◌, ℕ, List, sym, subst}
+use Rattle.std.proofs.Common.{List, sym, subst}
 use Rattle.ath_env.specs.Values.{Value}
 use Rattle.ath_eval.specs.Methods as methods
-use Rattle.ath_eval.specs.World.{IsOutcome, IsAnswer}
+use Rattle.ath_eval.specs.World.{IsAnswer}
 use Rattle.ath_eval.proofs.Arguments.{no_value, as_many, two_arguments}
 use Rattle.ath_eval.proofs.Counts.{implied_count}
 use Rattle.ath_eval.proofs.Ponens.{same_answer}

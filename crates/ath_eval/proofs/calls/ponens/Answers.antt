@@ -1,8 +1,8 @@
-use Rattle.std.proofs.Common.{◌≡◌, ℕ, List, sym, subst}
+use Rattle.std.proofs.Common.{List, sym, subst}
 use Rattle.ath_env.specs.Values.{Value}
 use Rattle.ath_eval.specs.Base.{sents_of}
 use Rattle.ath_eval.specs.Methods as methods
-use Rattle.ath_eval.specs.World.{IsOutcome, IsAnswer}
+use Rattle.ath_eval.specs.World.{IsAnswer}
 use Rattle.ath_eval.proofs.Arguments.{no_value, as_many, two_arguments}
 use Rattle.ath_eval.proofs.Counts.{ponens_count}
 use Rattle.ath_eval.proofs.Ponens.{same_answer}

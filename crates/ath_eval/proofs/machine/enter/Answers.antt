@@ -1,4 +1,4 @@
-use Rattle.std.proofs.Common.{ℕ, ◌+◌, ◌-◌, ◌*◌, ◌<◌, length, arith}
+use Rattle.std.proofs.Common.{◌-◌, arith}
 use Rattle.ath_terms.proofs.Grow.{grows-none}
 use Rattle.ath_eval.specs.Settings.{reading}
 use Rattle.ath_eval.proofs.Stretches.{rank_below, steps_same, steps_after, enters_empty, enters_deep, enters_form}

@@ -1,4 +1,4 @@
-use Rattle.std.proofs.Common.{ℕ, ◌+◌, ◌*◌, ◌<◌, length, arith}
+use Rattle.std.proofs.Common.{arith}
 use Rattle.ath_terms.proofs.Grow.{grows-none}
 use Rattle.ath_env.specs.LookUp.{looked_up}
 use Rattle.ath_eval.specs.Evaluation.{found, unbuilt}
@@ -26,5 +26,5 @@ pub returns-in_default : goal.returns-in_default
 returns-in_default c = let a = c.args in let s = a.store.now in let nodes = a.set.now.phrases.now in let r = reading a.set.now s in let n = c.node-node.result.now in let fs = a.stack.now.items in record {
   grows = grows-none s;
   steps = λ fuel. steps_done r nodes s _ _ s fuel c.bare.result fs (grows-none s) (omega arith)
-    (λ out m. (unbuilt n.pos fuel, c.bare.ensures s fuel, form_unbuilt r nodes s a.phrase fs out n c.node-node.ensures.node a.levels fuel c.in_default.not-Name c.in_default.not-Apply c.in_default.not-Call m));
+      (λ out m. (unbuilt n.pos fuel, c.bare.ensures s fuel, form_unbuilt r nodes s a.phrase fs out n c.node-node.ensures.node a.levels fuel c.in_default.not-Name c.in_default.not-Apply c.in_default.not-Call m));
 }

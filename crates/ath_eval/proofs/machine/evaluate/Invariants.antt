@@ -1,7 +1,7 @@
-use Rattle.std.proofs.Common.{◌≡◌, ℕ, List, []}
+use Rattle.std.proofs.Common.{◌≡◌, []}
 use Rattle.ath_terms.specs.Trees.{Grows}
 use Rattle.ath_eval.specs.declared.frame.State.TheVariants.{Enter}
-use Rattle.ath_eval.specs.Base.{AreIn, sents_of}
+use Rattle.ath_eval.specs.Base.{AreIn}
 use Rattle.ath_eval.specs.Machine.{Means, weight}
 use Rattle.ath_eval.specs.Outcomes.{Outcome}
 use Rattle.ath_eval.specs.Settings.{reading}

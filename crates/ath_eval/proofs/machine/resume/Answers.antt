@@ -1,8 +1,5 @@
-use Rattle.std.proofs.Common.{◌≡◌, ℕ, ◌+◌, ◌*◌, ◌<◌, ◌≤◌, List, length, arith}
+use Rattle.std.proofs.Common.{arith}
 use Rattle.ath_terms.proofs.Grow.{grows-none}
-use Rattle.ath_eval.specs.declared.world.Outcome.TheVariants as ends
-use Rattle.ath_eval.specs.Machine.{FrameMeans}
-use Rattle.ath_eval.specs.Outcomes.{Outcome}
 use Rattle.ath_eval.specs.Settings.{reading}
 use Rattle.ath_eval.proofs.Returns.{error_passes, exhaustion_passes, theorem_is_value}
 use Rattle.ath_eval.proofs.Stretches.{steps_same, steps_after}

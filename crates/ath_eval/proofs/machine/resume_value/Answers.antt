@@ -1,7 +1,4 @@
-use Rattle.std.proofs.Common.{◌≡◌, ℕ, ◌+◌, ◌*◌, ◌<◌, ◌≤◌, List, length, arith}
-use Rattle.ath_eval.specs.declared.world.Outcome.TheVariants as ends
-use Rattle.ath_eval.specs.Machine.{FrameMeans}
-use Rattle.ath_eval.specs.Outcomes.{Outcome}
+use Rattle.std.proofs.Common.{arith}
 use Rattle.ath_eval.specs.Settings.{reading}
 use Rattle.ath_eval.proofs.Returns.{head_gets, argument_gets}
 use Rattle.ath_eval.proofs.Stretches.{steps_after}

@@ -1,6 +1,5 @@
-use Rattle.std.proofs.Common.{◌≡◌, ℕ, ◌+◌, ◌*◌, ◌<◌, List, length, Option, Some, None, sym, ◌∙◌, subst, arith}
+use Rattle.std.proofs.Common.{◌≡◌, ℕ, List, length, Some, None, sym, subst, arith}
 use Rattle.std.specs.Prelude.{slice_get}
-use Rattle.ath_syntax.specs.declared.node.PhraseId.{PhraseId}
 use Rattle.ath_env.specs.declared.value.Value.{Value}
 use Rattle.ath_eval.specs.declared.frame.Frame.TheVariants.{Argument}
 use Rattle.ath_eval.specs.Arguments.{AreArguments}
@@ -14,7 +13,7 @@ returns-in_ok-outcome-in-None-clause-steps c = λ fuel. let a = c.args in let s 
     let none : slice_get (arguments_at nodes a.phrase) (length a.done) ≡ None = sym (subst (λ (n : ℕ). None ≡ slice_get (arguments_at nodes a.phrase) n) c.len.ensures c.in-None.ensures) in
     steps_done r nodes s _ _ c.act.new.store fuel o.outcome fs o.ensures.grows (omega arith)
     (λ out m. let k = arguments_done r nodes s a.phrase fs out a.head a.done a.levels fuel none m in
-     (acts r k.0 k.1 k.2 fuel, o.ensures.outcome k.0 k.1 k.2 k.3 k.4 (subst (λ (vs : List Value). AreArguments s vs k.2) (sym c.as_slice.ensures) k.5) fuel, k.6))
+    (acts r k.0 k.1 k.2 fuel, o.ensures.outcome k.0 k.1 k.2 k.3 k.4 (subst (λ (vs : List Value). AreArguments s vs k.2) (sym c.as_slice.ensures) k.5) fuel, k.6))
 
 pub returns-in_ok-push-in-Some-clause-steps : goal.returns-in_ok-push-in-Some-clause-steps
 returns-in_ok-push-in-Some-clause-steps c = λ fuel. let a = c.args in let s = a.store.now in let nodes = a.set.now.phrases.now in let r = reading a.set.now s in let k = c.in-Some in let fs = a.stack.now.items in

@@ -1,11 +1,11 @@
-use Rattle.std.proofs.Common.{◌≡◌, ℕ, List, Option, Some, None, refl, sym, ap, ◌∙◌, subst, arith}
+use Rattle.std.proofs.Common.{◌≡◌, Some, refl}
 use Rattle.ath_terms.specs.Trees.{sent_at}
-use Rattle.ath_env.specs.Values.{Value, value_at, sentence_of}
+use Rattle.ath_env.specs.Values.{value_at, sentence_of}
 use Rattle.ath_eval.specs.Base.{sents_of}
 use Rattle.ath_eval.specs.Methods as methods
-use Rattle.ath_eval.proofs.Arguments.{value_grows, sentence_some}
+use Rattle.ath_eval.proofs.Arguments.{sentence_some}
 use Rattle.ath_eval.proofs.Base.{sents_grow}
-use Rattle.ath_eval.proofs.Ponens.{same_answer, of_implication}
+use Rattle.ath_eval.proofs.Ponens.{same_answer}
 use Rattle.ath_eval.proofs.methods.claim.Goals as goal
 
 pub returns-in_ok-outcome-in-Some-clause-outcome : goal.returns-in_ok-outcome-in-Some-clause-outcome

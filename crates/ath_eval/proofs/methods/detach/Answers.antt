@@ -1,4 +1,4 @@
-use Rattle.std.proofs.Common.{ℕ, refl, sym, ◌∙◌, subst}
+use Rattle.std.proofs.Common.{refl, sym, ◌∙◌}
 use Rattle.ath_terms.specs.Trees.{sent_at}
 use Rattle.ath_eval.specs.Base.{sents_of}
 use Rattle.ath_eval.proofs.Ponens.{other_premise, no_implication, no_premise, conclusion, small_right}
@@ -10,11 +10,11 @@ returns-then-not-is_same_sent c = λ fuel. let a = c.args in let s = a.store.now
 
 pub returns-then-not-is_in_base : goal.returns-then-not-is_in_base
 returns-then-not-is_in_base c = λ fuel. let a = c.args in let s = a.store.now in
-    rw (no_implication (sents_of s a.base.now) (sent_at s.sents a.p.0) (sent_at s.sents a.parts.0.0) (sent_at s.sents a.parts.1.0) (sent_at s.sents a.q.0) a.at fuel c.is_same_sent.result c.is_same_sent.ensures c.if-not-is_same_sent.false (sym c.is_in_base.ensures ∙ c.if-not-is_in_base.true)) (c.in_ok-outcome-2.ensures fuel)
+    rw (no_implication (sents_of s a.base.now) (sent_at s.sents a.p.0) (sent_at s.sents a.parts.0.0) (sent_at s.sents a.parts.1.0) (sent_at s.sents a.q.0) a.at fuel c.is_same_sent.result c.is_same_sent.ensures c.if-not-is_same_sent.false (sym c.is_in_base.ensures ∙ c.if-not-is_in_base.true)) (c.in_ok-outcome-2.ensures s c.requires.implication fuel)
 
 pub returns-then-not-is_in_base-2 : goal.returns-then-not-is_in_base-2
 returns-then-not-is_in_base-2 c = λ fuel. let a = c.args in let s = a.store.now in
-    rw (no_premise (sents_of s a.base.now) (sent_at s.sents a.p.0) (sent_at s.sents a.parts.0.0) (sent_at s.sents a.parts.1.0) (sent_at s.sents a.q.0) a.at fuel c.is_same_sent.result c.is_same_sent.ensures c.if-not-is_same_sent.false (sym c.is_in_base.ensures ∙ c.if-not-is_in_base.false) (sym c.is_in_base-2.ensures ∙ c.if-not-is_in_base-2.true)) (c.in_ok-outcome-3.ensures fuel)
+    rw (no_premise (sents_of s a.base.now) (sent_at s.sents a.p.0) (sent_at s.sents a.parts.0.0) (sent_at s.sents a.parts.1.0) (sent_at s.sents a.q.0) a.at fuel c.is_same_sent.result c.is_same_sent.ensures c.if-not-is_same_sent.false (sym c.is_in_base.ensures ∙ c.if-not-is_in_base.false) (sym c.is_in_base-2.ensures ∙ c.if-not-is_in_base-2.true)) (c.in_ok-outcome-3.ensures s c.requires.premise fuel)
 
 pub returns : goal.returns
 returns c = λ fuel. let a = c.args in let s = a.store.now in

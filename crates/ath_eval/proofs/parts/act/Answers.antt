@@ -1,4 +1,4 @@
-use Rattle.std.proofs.Common.{◌≡◌, ℕ, refl}
+use Rattle.std.proofs.Common.{refl}
 use Rattle.ath_terms.proofs.Grow.{grows-none}
 use Rattle.ath_eval.specs.Evaluation.{unbuilt}
 use Rattle.ath_eval.specs.Machine.{acts}
@@ -22,5 +22,5 @@ pub returns-in_default : goal.returns-in_default
 returns-in_default c = let a = c.args in let n = c.node-node.result.now in let nodes = a.set.now.phrases.now in record {
   grows = grows-none a.store.now;
   outcome = λ x v vs isx isv all. same_answer a.store.now c.bare.result (acts (reading a.set.now a.store.now) x v vs) (unbuilt n.pos)
-    (acts_other nodes (reading a.set.now a.store.now) n.pos v vs n.form x c.in_default.not-Apply c.in_default.not-Call (form_here nodes a.phrase n x isx c.node-node.ensures.node)) (c.bare.ensures a.store.now);
+      (acts_other nodes (reading a.set.now a.store.now) n.pos v vs n.form x c.in_default.not-Apply c.in_default.not-Call (form_here nodes a.phrase n x isx c.node-node.ensures.node)) (c.bare.ensures a.store.now);
 }

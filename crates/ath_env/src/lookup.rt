@@ -1,10 +1,10 @@
 // The value that a name finds.
 
-ghost use Rattle.std.specs.Prelude.{◌≡◌, ◌<◌, length, Option, IfOk, map};
+ghost use Rattle.std.specs.Prelude.{◌≡◌, Option, IfOk, map};
 ghost use Rattle.std.specs.Map.{lookup};
 ghost use Rattle.std.specs.Str.{bytes_eq};
 ghost use Rattle.ath_terms.specs.Trees.{Trees, Grows};
-ghost use Rattle.ath_env.specs.LookUp.{looked_up, first_values};
+ghost use Rattle.ath_env.specs.LookUp.{looked_up, first_values, text_of};
 ghost use Rattle.ath_env.specs.Values.{IsFound};
 
 use crate::value::Value;
@@ -46,6 +46,16 @@ fn first_value(text: &str) -> Option<Value>
     find_in(&FIRST_VALUES, text)
 }
 
+// The text of a name: none where the table lacks it.
+fn text_of(names: &Names, name: Sym) -> &str
+    ensures { result.now ≡ text_of names.now name }
+{
+    if name.0 < names.len() {
+        return names.text(name.0);
+    }
+    ""
+}
+
 /// The value that a name finds: the constant of a declared symbol, or what every script begins with under this name.
 pub fn look_up(
     alloc: Global,
@@ -54,7 +64,6 @@ pub fn look_up(
     store: &mut Store,
     name: Sym,
 ) -> Result<Option<Value>, AllocError>
-    requires { name.0 < length names.now }
     ensures grows { Grows store.old store.new }
     ensures found { IfOk result (λ found. IsFound store.new found (looked_up names.now sig.now name)) }
 {
@@ -63,5 +72,5 @@ pub fn look_up(
         let constant = store.add_term(node)?;
         return Ok(Some(Value::Term(constant)));
     }
-    Ok(first_value(names.text(name.0)))
+    Ok(first_value(text_of(names, name)))
 }

@@ -8,18 +8,19 @@ use Rattle.ath_syntax.specs.Nodes.{Nodes}
 use Rattle.ath_syntax.specs.Stands.{IsPhrase, ArePhrases}
 use Rattle.ath_syntax.specs.Tree.{Phrase, apply_at, call_at, Phrases, no_phrases}
 use Rattle.ath_terms.specs.Trees.{Trees, Grows}
-use Rattle.ath_env.specs.declared.value.Value as code
-use Rattle.ath_env.specs.Values.{Value, IsValue}
+use Rattle.ath_env.specs.declared.value.Value as value
+use Rattle.ath_env.specs.Values.{Value}
 use Rattle.ath_eval.specs.declared.frame.Frame.{Frame}
 use Rattle.ath_eval.specs.declared.frame.Frame.TheVariants.{Head, Argument}
 use Rattle.ath_eval.specs.declared.frame.State.{State}
 use Rattle.ath_eval.specs.declared.frame.State.TheVariants.{Enter, Done}
 use Rattle.ath_eval.specs.declared.world.Outcome as code
-use Rattle.ath_eval.specs.declared.world.Outcome.TheVariants as code
+use Rattle.ath_eval.specs.declared.world.Outcome.TheVariants as ends
+use Rattle.ath_eval.specs.Arguments.{IsArgument, AreArguments}
 use Rattle.ath_eval.specs.Outcomes.{Context, Outcome, and_then, each}
 use Rattle.ath_eval.specs.Methods.{applied, called}
 use Rattle.ath_eval.specs.Evaluation.{evaluated, form, place, unbuilt}
-use Rattle.ath_eval.specs.World.{IsOutcome, IsSmallValue}
+use Rattle.ath_eval.specs.World.{IsOutcome}
 
 -- what becomes of the head and the arguments of an application or a call
 abbrev pub acts : Context → Phrase → Value → List Value → ℕ → Outcome
@@ -45,16 +46,6 @@ node_arguments (Some n) = form_arguments n.form
 abbrev pub arguments_at : Nodes → PhraseId → List PhraseId
 arguments_at nodes i = node_arguments (slice_get nodes.phrases i.0)
 
--- a value within the limits
-abbrev pub IsArgument : Trees → code.Value → Value → Type 0
-IsArgument s v x = IsValue s v x × IsSmallValue x
-
-abbrev pub AreArguments : Trees → List code.Value → List Value → Type 0
-AreArguments s [] [] = Unit {0}
-AreArguments s (v ∷ vs) (x ∷ xs) = IsArgument s v x × AreArguments s vs xs
-AreArguments s [] (x ∷ xs) = ⊥
-AreArguments s (v ∷ vs) [] = ⊥
-
 -- the frame makes this outcome of its part's outcome
 abbrev pub Fills : Context → Nodes → Trees → Frame → Outcome → Outcome → Type 0
 Fills c nodes s (Head i levels) r out =
@@ -78,10 +69,10 @@ Means c nodes s fuel (Done o) fs out =
 -- what is left to do
 abbrev pub rank : State → ℕ
 rank (Enter i levels) = 1
-rank (Done (code.Value v)) = 2
-rank (Done (code.Theorem p)) = 2
-rank (Done (code.Error at why)) = 2
-rank (Done (code.Exhausted at)) = 0
+rank (Done (ends.Value v)) = 2
+rank (Done (ends.Theorem p)) = 2
+rank (Done (ends.Error at why)) = 2
+rank (Done (ends.Exhausted at)) = 0
 
 abbrev pub weight : ℕ → State → List Frame → ℕ
 weight fuel st fs = 4 * fuel + 2 * length fs + rank st
@@ -98,7 +89,7 @@ FormMeans c nodes s fuel i levels fs out =
     (x : Phrase) × IsPhrase nodes i x × Resumes c nodes s fs (form c (evaluated c levels) x fuel) out
 
 -- the head is known, and these arguments
-abbrev pub ArgumentsMean : Context → Nodes → Trees → ℕ → PhraseId → code.Value → List code.Value → ℕ → List Frame → Outcome → Type 0
+abbrev pub ArgumentsMean : Context → Nodes → Trees → ℕ → PhraseId → value.Value → List value.Value → ℕ → List Frame → Outcome → Type 0
 ArgumentsMean c nodes s fuel i h done levels fs out =
     (x : Phrase) × (v : Value) × (vs : List Value) × (rest : Phrases) × IsPhrase nodes i x × IsArgument s h v × AreArguments s done vs × ArePhrases nodes (drop (length done) (arguments_at nodes i)) rest
     × Resumes c nodes s fs (each (evaluated c levels) vs rest (acts c x v) fuel) out

@@ -26,7 +26,7 @@ pub data Outcome : Type 0 where
   exhausts : Pos → Outcome
 
 abbrev pub refusal : FaultKind → List Argument → Refusal
-refusal k as = record { kind = k; args = as }
+refusal k named = record { kind = k; args = named }
 
 -- what evaluates a part, with this fuel
 abbrev pub Evaluator : Type 0

@@ -3,9 +3,12 @@
 
 pub mod calls;
 mod frame;
-pub mod laws;
-mod run;
+mod machine;
+mod methods;
+mod parts;
+mod refusals;
+mod setting;
 pub mod world;
 
-pub use run::run;
+pub use machine::run;
 pub use world::{Outcome, World};

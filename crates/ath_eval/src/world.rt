@@ -1,6 +1,6 @@
 // What an evaluation runs in, and how it ends.
 
-ghost use Rattle.ath_eval.specs.World.{AreIn};
+ghost use Rattle.ath_eval.specs.Base.{AreIn};
 
 use ath_env::Value;
 use ath_names::Names;

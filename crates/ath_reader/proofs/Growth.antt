@@ -1,5 +1,5 @@
 -- What an answer keeps of the names and the phrases, and that a directive's number is there.
-use Rattle.std.proofs.Common.{◌≡◌, ℕ, ◌<◌, List, [], ◌∷◌, length, slice_get, Option, Some, None, Result, Ok, Err, ◌⊎◌, inl, inr, sym, subst}
+use Rattle.std.proofs.Common.{◌≡◌, ℕ, ◌<◌, List, length, slice_get, Option, Some, None, Result, Ok, Err, ◌⊎◌, inl, inr, sym, subst}
 use Rattle.std.proofs.lemmas.Option.{slice_get_within}
 use Rattle.ath_syntax.specs.declared.directive.Directive.{Directive}
 use Rattle.ath_syntax.specs.declared.directive.What.{What}
@@ -10,13 +10,13 @@ use Rattle.ath_syntax.specs.Stands.{is_phrase, IsStatement, says_domain, says_da
 use Rattle.ath_syntax.specs.Tree.{DirectiveTree, Statement}
 use Rattle.ath_syntax.proofs.Growth.{Grows-refl as syntax_same}
 use Rattle.ath_names.specs.Names.{Grows}
-use Rattle.ath_names.proofs.NamesLaws.{Grows-refl, Grows-trans}
+use Rattle.ath_names.proofs.NamesLaws.{Grows-refl}
 use Rattle.ath_tokens.specs.Cutting.{Cutting}
 use Rattle.ath_reader.specs.declared.reader.SyntaxError.{SyntaxError}
-use Rattle.ath_reader.specs.Ahead.{Ahead, a_token, the_end, a_fault, ahead, reads_none, reads_more, names_past}
+use Rattle.ath_reader.specs.Ahead.{names_past}
 use Rattle.ath_reader.specs.Reading.{Reading, Progress, reached, refused, Front, Refuses, Wants, Answers}
 use Rattle.ath_reader.specs.Steps.{reading_of, NumbersTree}
-use Rattle.ath_reader.proofs.KnownTokens.{reads_grow}
+use Rattle.ath_reader.proofs.KnownTokens.{past_grows}
 
 names_same : (names names' : List (List ℕ)) → names' ≡ names → Grows names names'
 names_same names names' e = subst (Grows names) (sym e) (Grows-refl names)
@@ -26,13 +26,7 @@ phrases_same s s' e = subst (syntax.Grows s) (sym e) (syntax_same s)
 
 -- the names of the tokens that are read, and of what comes next
 pub front_grows : (r : Reading) (names : List (List ℕ)) (from : ℕ) (names' : List (List ℕ)) (f : Front r names from) → names' ≡ names_past f.next f.known → Grows names names'
-front_grows r names from names' f e =
-    subst (Grows names) (sym e) (Grows-trans (reads_grow r.file r.text names from f.tokens f.known f.to f.read) (past f.next f.known f.to f.comes))
-  where
-    past : (next : Ahead) (known : List (List ℕ)) (to : ℕ) → ahead r.file r.text known to ≡ next → Grows known (names_past next known)
-    past (a_token t last end) known to e = reads_grow r.file r.text known to (t ∷ []) last end (reads_more e reads_none)
-    past the_end known to e = Grows-refl known
-    past (a_fault kind byte) known to e = Grows-refl known
+front_grows r names from names' f e = subst (Grows names) (sym e) (past_grows r.file r.text names from f.tokens f.known f.to f.next f.read f.comes)
 
 module _ (old : Cutting) (names : List (List ℕ)) (s : syntax.Nodes) (new : Cutting) (names' : List (List ℕ)) (s' : syntax.Nodes) where
   pub numbers_names : (result : Result (Option Directive) SyntaxError) → NumbersTree old names s result new names' s' → Grows names names'

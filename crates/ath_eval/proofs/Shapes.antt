@@ -1,0 +1,162 @@
+-- What the node of a phrase tells of its evaluation.
+use Rattle.std.proofs.Common.{◌≡◌, ℕ, List, [], Option, Some, refl, sym, subst}
+use Rattle.std.specs.Prelude.{slice_get}
+use Rattle.ath_sorts.specs.declared.sorts.Sym.{Sym}
+use Rattle.ath_syntax.specs.declared.place.Pos.{Pos}
+use Rattle.ath_syntax.specs.declared.node.PhraseId.{PhraseId}
+use Rattle.ath_syntax.specs.declared.node.Form.{Form}
+use Rattle.ath_syntax.specs.declared.node.Form.TheVariants.{Name, Apply, Call}
+use Rattle.ath_syntax.specs.declared.node.Node.{Node}
+use Rattle.ath_syntax.specs.Nodes.{Nodes}
+use Rattle.ath_syntax.specs.Tree.{Phrase}
+use Rattle.ath_syntax.specs.Stands.{IsPhrase, IsForm, is_name, is_variable, is_string, is_list, is_ascribe, is_apply, is_call, is_lambda, is_method, is_let, is_letrec, is_match, is_check, is_try, is_seq, is_assume, is_absurd, is_pick_any, is_pick_witness, is_induct, is_cases, is_conclude, ArePhrases, phrases_none}
+use Rattle.ath_syntax.proofs.NodeLaws.{node_of, node_at, form_of}
+use Rattle.ath_env.specs.LookUp.{looked_up}
+use Rattle.ath_env.specs.Values.{Value}
+use Rattle.ath_eval.specs.Evaluation.{form, found, place, unbuilt}
+use Rattle.ath_eval.specs.Machine.{acts, arguments, form_arguments, node_arguments, arguments_at}
+use Rattle.ath_eval.specs.Methods.{applied, called}
+use Rattle.ath_eval.specs.Outcomes.{Context, Evaluator, and_then, each}
+
+module _ (nodes : Nodes) where
+  pub form_here : (i : PhraseId) (n : Node) (x : Phrase) → IsPhrase nodes i x → slice_get nodes.phrases i.0 ≡ Some n → IsForm nodes n.pos n.form x
+  form_here i n x isp at = form_of nodes n x (node_at nodes i n x isp at)
+
+  pub place_of : (p : Pos) (f : Form) (x : Phrase) → IsForm nodes p f x → place x ≡ p
+  place_of p f x is_name = refl
+  place_of p f x is_variable = refl
+  place_of p f x is_string = refl
+  place_of p f x (is_list h) = refl
+  place_of p f x (is_ascribe h) = refl
+  place_of p f x (is_apply h k) = refl
+  place_of p f x (is_call h k) = refl
+  place_of p f x (is_lambda h) = refl
+  place_of p f x (is_method h) = refl
+  place_of p f x (is_let h k) = refl
+  place_of p f x (is_letrec h k) = refl
+  place_of p f x (is_match h k) = refl
+  place_of p f x (is_check h k) = refl
+  place_of p f x (is_try h) = refl
+  place_of p f x (is_seq h) = refl
+  place_of p f x (is_assume h k) = refl
+  place_of p f x (is_absurd h k) = refl
+  place_of p f x (is_pick_any h) = refl
+  place_of p f x (is_pick_witness h k) = refl
+  place_of p f x (is_induct h k) = refl
+  place_of p f x (is_cases h k) = refl
+  place_of p f x (is_conclude h k) = refl
+
+  -- the arguments of a form
+  form_arguments_stand : (p : Pos) (f : Form) (x : Phrase) → IsForm nodes p f x → ArePhrases nodes (form_arguments f) (arguments x)
+  form_arguments_stand p f x is_name = phrases_none
+  form_arguments_stand p f x is_variable = phrases_none
+  form_arguments_stand p f x is_string = phrases_none
+  form_arguments_stand p f x (is_list h) = phrases_none
+  form_arguments_stand p f x (is_ascribe h) = phrases_none
+  form_arguments_stand p f x (is_apply h k) = k
+  form_arguments_stand p f x (is_call h k) = k
+  form_arguments_stand p f x (is_lambda h) = phrases_none
+  form_arguments_stand p f x (is_method h) = phrases_none
+  form_arguments_stand p f x (is_let h k) = phrases_none
+  form_arguments_stand p f x (is_letrec h k) = phrases_none
+  form_arguments_stand p f x (is_match h k) = phrases_none
+  form_arguments_stand p f x (is_check h k) = phrases_none
+  form_arguments_stand p f x (is_try h) = phrases_none
+  form_arguments_stand p f x (is_seq h) = phrases_none
+  form_arguments_stand p f x (is_assume h k) = phrases_none
+  form_arguments_stand p f x (is_absurd h k) = phrases_none
+  form_arguments_stand p f x (is_pick_any h) = phrases_none
+  form_arguments_stand p f x (is_pick_witness h k) = phrases_none
+  form_arguments_stand p f x (is_induct h k) = phrases_none
+  form_arguments_stand p f x (is_cases h k) = phrases_none
+  form_arguments_stand p f x (is_conclude h k) = phrases_none
+
+  pub arguments_stand : (i : PhraseId) (x : Phrase) → IsPhrase nodes i x → ArePhrases nodes (arguments_at nodes i) (arguments x)
+  arguments_stand i x isp =
+      let n = node_of nodes i x isp in
+      subst (λ (o : Option Node). ArePhrases nodes (node_arguments o) (arguments x)) (sym n.1) (form_arguments_stand n.0.pos n.0.form x (form_of nodes n.0 x n.2))
+
+  module _ (c : Context) where
+    module _ (p : Pos) (x : Phrase) (v : Value) (vs : List Value) where
+      pub acts_apply : (f : Form) (j : PhraseId) (is : List PhraseId) → f ≡ Apply j is → IsForm nodes p f x → acts c x v vs ≡ applied v vs p
+      acts_apply f j is e h = go x (subst (λ (y : Form). IsForm nodes p y x) e h)
+        where
+          go : (x : Phrase) → IsForm nodes p (Apply j is) x → acts c x v vs ≡ applied v vs p
+          go x (is_apply a b) = refl
+
+      pub acts_call : (f : Form) (j : PhraseId) (is : List PhraseId) → f ≡ Call j is → IsForm nodes p f x → acts c x v vs ≡ called c v vs p
+      acts_call f j is e h = go x (subst (λ (y : Form). IsForm nodes p y x) e h)
+        where
+          go : (x : Phrase) → IsForm nodes p (Call j is) x → acts c x v vs ≡ called c v vs p
+          go x (is_call a b) = refl
+
+    pub acts_other : (p : Pos) (v : Value) (vs : List Value) (f : Form) (x : Phrase) → ((j : PhraseId) (is : List PhraseId) → f ≡ Apply j is → ⊥) → ((j : PhraseId) (is : List PhraseId) → f ≡ Call j is → ⊥) → IsForm nodes p f x → acts c x v vs ≡ unbuilt p
+    acts_other p v vs f x na nc is_name = refl
+    acts_other p v vs f x na nc is_variable = refl
+    acts_other p v vs f x na nc is_string = refl
+    acts_other p v vs f x na nc (is_list h) = refl
+    acts_other p v vs f x na nc (is_ascribe h) = refl
+    acts_other p v vs f x na nc (is_apply {i = j} {is = js} h k) = absurd (na j js refl)
+    acts_other p v vs f x na nc (is_call {i = j} {is = js} h k) = absurd (nc j js refl)
+    acts_other p v vs f x na nc (is_lambda h) = refl
+    acts_other p v vs f x na nc (is_method h) = refl
+    acts_other p v vs f x na nc (is_let h k) = refl
+    acts_other p v vs f x na nc (is_letrec h k) = refl
+    acts_other p v vs f x na nc (is_match h k) = refl
+    acts_other p v vs f x na nc (is_check h k) = refl
+    acts_other p v vs f x na nc (is_try h) = refl
+    acts_other p v vs f x na nc (is_seq h) = refl
+    acts_other p v vs f x na nc (is_assume h k) = refl
+    acts_other p v vs f x na nc (is_absurd h k) = refl
+    acts_other p v vs f x na nc (is_pick_any h) = refl
+    acts_other p v vs f x na nc (is_pick_witness h k) = refl
+    acts_other p v vs f x na nc (is_induct h k) = refl
+    acts_other p v vs f x na nc (is_cases h k) = refl
+    acts_other p v vs f x na nc (is_conclude h k) = refl
+
+    module _ (rec : Evaluator) where
+      pub form_name : (p : Pos) (f : Form) (x : Phrase) (n : Sym) → f ≡ Name n → IsForm nodes p f x → form c rec x ≡ found n p (looked_up c.names c.signature n)
+      form_name p f x n e h = go x (subst (λ (y : Form). IsForm nodes p y x) e h)
+        where
+          go : (x : Phrase) → IsForm nodes p (Name n) x → form c rec x ≡ found n p (looked_up c.names c.signature n)
+          go x is_name = refl
+
+      pub form_other : (p : Pos) (f : Form) (x : Phrase) → ((n : Sym) → f ≡ Name n → ⊥) → ((j : PhraseId) (is : List PhraseId) → f ≡ Apply j is → ⊥) → ((j : PhraseId) (is : List PhraseId) → f ≡ Call j is → ⊥) → IsForm nodes p f x → form c rec x ≡ unbuilt p
+      form_other p f x nn na nc (is_name {x = n}) = absurd (nn n refl)
+      form_other p f x nn na nc is_variable = refl
+      form_other p f x nn na nc is_string = refl
+      form_other p f x nn na nc (is_list h) = refl
+      form_other p f x nn na nc (is_ascribe h) = refl
+      form_other p f x nn na nc (is_apply {i = j} {is = js} h k) = absurd (na j js refl)
+      form_other p f x nn na nc (is_call {i = j} {is = js} h k) = absurd (nc j js refl)
+      form_other p f x nn na nc (is_lambda h) = refl
+      form_other p f x nn na nc (is_method h) = refl
+      form_other p f x nn na nc (is_let h k) = refl
+      form_other p f x nn na nc (is_letrec h k) = refl
+      form_other p f x nn na nc (is_match h k) = refl
+      form_other p f x nn na nc (is_check h k) = refl
+      form_other p f x nn na nc (is_try h) = refl
+      form_other p f x nn na nc (is_seq h) = refl
+      form_other p f x nn na nc (is_assume h k) = refl
+      form_other p f x nn na nc (is_absurd h k) = refl
+      form_other p f x nn na nc (is_pick_any h) = refl
+      form_other p f x nn na nc (is_pick_witness h k) = refl
+      form_other p f x nn na nc (is_induct h k) = refl
+      form_other p f x nn na nc (is_cases h k) = refl
+      form_other p f x nn na nc (is_conclude h k) = refl
+
+      -- the head of an application or a call, and what becomes of its value
+      abbrev pub HeadOf : PhraseId → Phrase → Type 0
+      HeadOf j x = (h : Phrase) × IsPhrase nodes j h × ((fuel : ℕ) → form c rec x fuel ≡ and_then (rec h fuel) (λ v left. each rec [] (arguments x) (acts c x v) left))
+
+      pub head_applied : (p : Pos) (f : Form) (x : Phrase) (j : PhraseId) (is : List PhraseId) → f ≡ Apply j is → IsForm nodes p f x → HeadOf j x
+      head_applied p f x j is e h = go x (subst (λ (y : Form). IsForm nodes p y x) e h)
+        where
+          go : (x : Phrase) → IsForm nodes p (Apply j is) x → HeadOf j x
+          go x (is_apply {t = t} a b) = (t, a, λ fuel. refl)
+
+      pub head_called : (p : Pos) (f : Form) (x : Phrase) (j : PhraseId) (is : List PhraseId) → f ≡ Call j is → IsForm nodes p f x → HeadOf j x
+      head_called p f x j is e h = go x (subst (λ (y : Form). IsForm nodes p y x) e h)
+        where
+          go : (x : Phrase) → IsForm nodes p (Call j is) x → HeadOf j x
+          go x (is_call {t = t} a b) = (t, a, λ fuel. refl)

@@ -1,0 +1,13 @@
+use Rattle.std.proofs.Common.{◌≡◌, Some, refl}
+use Rattle.ath_terms.specs.Trees.{sent_at}
+use Rattle.ath_env.specs.Values.{value_at, sentence_of}
+use Rattle.ath_eval.specs.Methods as methods
+use Rattle.ath_eval.proofs.Arguments.{value_grows, sentence_some}
+use Rattle.ath_eval.proofs.Ponens.{same_answer}
+use Rattle.ath_eval.proofs.methods.implication.Goals as goal
+
+pub returns-in_ok-outcome-in-Some-clause-outcome : goal.returns-in_ok-outcome-in-Some-clause-outcome
+returns-in_ok-outcome-in-Some-clause-outcome c = let a = c.args in let s = a.store.now in let t = c.sentence.new.store in
+    let e : sentence_of (value_at s a.v) ≡ Some (sent_at t.sents c.in-Some.p.0) = sentence_some t c.in_ok-p.field-0 c.in-Some.p _ c.in-Some.is c.in_ok-p.ensures.sentence in
+    let v : value_at t a.w ≡ value_at s a.w = value_grows s t c.in_ok-p.ensures.grows a.w c.requires.right.0 in
+    same_answer c.imply.new.store c.in_ok-outcome-in-Some.outcome (methods.implication (sentence_of (value_at s a.v)) (sentence_of (value_at s a.w)) a.at) (methods.implication (Some (sent_at t.sents c.in-Some.p.0)) (sentence_of (value_at t a.w)) a.at) (rw (e, v) refl) c.in_ok-outcome-in-Some.ensures.outcome

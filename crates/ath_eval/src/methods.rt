@@ -1,0 +1,295 @@
+// The connective `if` and the primitive methods, argument by argument.
+
+ghost use Rattle.std.specs.Prelude.{◌≡◌, ◌<◌, Some, IfOk, length};
+ghost use Rattle.ath_terms.specs.Trees.{sent_at, Grows};
+ghost use Rattle.ath_terms.specs.Tree.{joined};
+ghost use Rattle.ath_terms.specs.Measure.{IsSmall};
+ghost use Rattle.ath_terms.specs.declared.node.Conn.TheVariants.{If};
+ghost use Rattle.ath_env.specs.Values.{value_at, sentence_of};
+ghost use Rattle.ath_eval.specs.Arguments.{IsGood, AreParts};
+ghost use Rattle.ath_eval.specs.Base.{sents_of, AreIn};
+ghost use Rattle.ath_eval.specs.Methods as methods;
+ghost use Rattle.ath_eval.specs.World.{IsAnswer};
+
+use crate::refusals::{missing, numbered};
+use crate::world::Outcome;
+use ath_env::{Value, sentence};
+use ath_print::FaultKind;
+use ath_syntax::Pos;
+use ath_terms::equality::is_same_sent;
+use ath_terms::{BuildError, Conn, SentId, SentNode, Store, join};
+use std::alloc::{AllocError, Global};
+
+/// The implication of two sentences.
+fn build(
+    alloc: Global,
+    store: &mut Store,
+    p: SentId,
+    q: SentId,
+    at: Pos,
+) -> Result<Outcome, AllocError>
+    requires left { p.0 < length store.old.sents }
+    requires right { q.0 < length store.old.sents }
+    requires left_small { IsSmall (sent_at store.old.sents p.0) }
+    requires right_small { IsSmall (sent_at store.old.sents q.0) }
+    ensures grows { Grows store.old store.new }
+    ensures outcome { IfOk result (λ o. IsAnswer store.new o (methods.built (joined If (sent_at store.old.sents p.0) (sent_at store.old.sents q.0)) at)) }
+{
+    match join(alloc, store, Conn::If, p, q) {
+        Ok(made) => Ok(Outcome::Value(Value::Sent(made))),
+        Err(BuildError::TooLarge(n)) => {
+            let outcome = numbered(alloc, FaultKind::TooLarge, n, at)?;
+            Ok(outcome)
+        }
+        Err(BuildError::TooDeep(n)) => {
+            let outcome = numbered(alloc, FaultKind::TooDeep, n, at)?;
+            Ok(outcome)
+        }
+        Err(BuildError::Memory) => Err(AllocError),
+    }
+}
+
+/// The implication of a sentence and the second argument.
+fn imply(
+    alloc: Global,
+    store: &mut Store,
+    p: SentId,
+    w: Value,
+    at: Pos,
+) -> Result<Outcome, AllocError>
+    requires left { p.0 < length store.old.sents }
+    requires left_small { IsSmall (sent_at store.old.sents p.0) }
+    requires right { IsGood store.old w }
+    ensures grows { Grows store.old store.new }
+    ensures outcome { IfOk result (λ o. IsAnswer store.new o (methods.implication (Some (sent_at store.old.sents p.0)) (sentence_of (value_at store.old w)) at)) }
+{
+    match sentence(store, w)? {
+        Some(q) => {
+            let outcome = build(alloc, store, p, q, at)?;
+            Ok(outcome)
+        }
+        None => {
+            let outcome = numbered(alloc, FaultKind::WrongKind, 2, at)?;
+            Ok(outcome)
+        }
+    }
+}
+
+/// The implication of the two arguments.
+pub(crate) fn implication(
+    alloc: Global,
+    store: &mut Store,
+    v: Value,
+    w: Value,
+    at: Pos,
+) -> Result<Outcome, AllocError>
+    requires left { IsGood store.old v }
+    requires right { IsGood store.old w }
+    ensures grows { Grows store.old store.new }
+    ensures outcome { IfOk result (λ o. IsAnswer store.new o (methods.implication (sentence_of (value_at store.old v)) (sentence_of (value_at store.old w)) at)) }
+{
+    match sentence(store, v)? {
+        Some(p) => {
+            let outcome = imply(alloc, store, p, w, at)?;
+            Ok(outcome)
+        }
+        None => {
+            let outcome = numbered(alloc, FaultKind::WrongKind, 1, at)?;
+            Ok(outcome)
+        }
+    }
+}
+
+/// Whether the base has a sentence.
+fn is_in_base(store: &Store, base: &[SentId], p: SentId) -> bool
+    requires base { AreIn store.now base.now }
+    requires sent { p.0 < length store.now.sents }
+    ensures { result ≡ methods.holds (sents_of store.now base.now) (sent_at store.now.sents p.0) }
+{
+    for q in base {
+        if is_same_sent(store, *q, p) {
+            return true;
+        }
+    }
+    false
+}
+
+/// The theorem of a sentence that the base has.
+fn conclude(
+    alloc: Global,
+    store: &Store,
+    base: &[SentId],
+    p: SentId,
+    at: Pos,
+) -> Result<Outcome, AllocError>
+    requires base { AreIn store.now base.now }
+    requires sent { p.0 < length store.now.sents }
+    requires small { IsSmall (sent_at store.now.sents p.0) }
+    ensures { IfOk result (λ o. IsAnswer store.now o (methods.claim (sents_of store.now base.now) (Some (sent_at store.now.sents p.0)) at)) }
+{
+    if is_in_base(store, base, p) {
+        return Ok(Outcome::Theorem(p));
+    }
+    let outcome = missing(alloc, p, at)?;
+    Ok(outcome)
+}
+
+/// The theorem of the argument.
+pub(crate) fn claim(
+    alloc: Global,
+    store: &mut Store,
+    base: &[SentId],
+    v: Value,
+    at: Pos,
+) -> Result<Outcome, AllocError>
+    requires base { AreIn store.old base.now }
+    requires argument { IsGood store.old v }
+    ensures grows { Grows store.old store.new }
+    ensures outcome { IfOk result (λ o. IsAnswer store.new o (methods.claim (sents_of store.old base.now) (sentence_of (value_at store.old v)) at)) }
+{
+    match sentence(store, v)? {
+        Some(p) => {
+            let outcome = conclude(alloc, store, base, p, at)?;
+            Ok(outcome)
+        }
+        None => {
+            let outcome = numbered(alloc, FaultKind::WrongKind, 1, at)?;
+            Ok(outcome)
+        }
+    }
+}
+
+/// The parts of an implication.
+fn implication_parts(store: &Store, p: SentId) -> Option<(SentId, SentId)>
+    requires { p.0 < length store.now.sents }
+    ensures { AreParts store.now (sent_at store.now.sents p.0) result }
+{
+    match store.sent(p) {
+        SentNode::Conn(conn, parts) => {
+            if *conn != Conn::If {
+                return None;
+            }
+            let parts = parts.as_slice();
+            Some((parts[0], parts[1]))
+        }
+        _ => None,
+    }
+}
+
+/// Modus ponens of the implication `p` of `a` and `b`, and of `q`.
+fn detach(
+    alloc: Global,
+    store: &Store,
+    base: &[SentId],
+    p: SentId,
+    parts: (SentId, SentId),
+    q: SentId,
+    at: Pos,
+) -> Result<Outcome, AllocError>
+    requires base { AreIn store.now base.now }
+    requires implication { p.0 < length store.now.sents }
+    requires small { IsSmall (sent_at store.now.sents p.0) }
+    requires joined { AreParts store.now (sent_at store.now.sents p.0) (Some parts) }
+    requires premise { q.0 < length store.now.sents }
+    ensures { IfOk result (λ o. IsAnswer store.now o (methods.detached (sents_of store.now base.now) (sent_at store.now.sents p.0) (sent_at store.now.sents parts.0.0) (sent_at store.now.sents parts.1.0) (sent_at store.now.sents q.0) at)) }
+{
+    let (a, b) = parts;
+    if !is_same_sent(store, q, a) {
+        let outcome = numbered(alloc, FaultKind::WrongShape, 2, at)?;
+        return Ok(outcome);
+    }
+    if !is_in_base(store, base, p) {
+        let outcome = missing(alloc, p, at)?;
+        return Ok(outcome);
+    }
+    if !is_in_base(store, base, q) {
+        let outcome = missing(alloc, q, at)?;
+        return Ok(outcome);
+    }
+    Ok(Outcome::Theorem(b))
+}
+
+/// Modus ponens of the implication `p`, which has these parts, and the second argument.
+fn from_implication(
+    alloc: Global,
+    store: &mut Store,
+    base: &[SentId],
+    p: SentId,
+    parts: (SentId, SentId),
+    w: Value,
+    at: Pos,
+) -> Result<Outcome, AllocError>
+    requires base { AreIn store.old base.now }
+    requires implication { p.0 < length store.old.sents }
+    requires small { IsSmall (sent_at store.old.sents p.0) }
+    requires joined { AreParts store.old (sent_at store.old.sents p.0) (Some parts) }
+    requires premise { IsGood store.old w }
+    ensures grows { Grows store.old store.new }
+    ensures outcome { IfOk result (λ o. IsAnswer store.new o (methods.from_implication (sents_of store.old base.now) (sent_at store.old.sents p.0) (sent_at store.old.sents parts.0.0) (sent_at store.old.sents parts.1.0) (sentence_of (value_at store.old w)) at)) }
+{
+    match sentence(store, w)? {
+        Some(q) => {
+            let outcome = detach(alloc, store, base, p, parts, q, at)?;
+            Ok(outcome)
+        }
+        None => {
+            let outcome = numbered(alloc, FaultKind::WrongKind, 2, at)?;
+            Ok(outcome)
+        }
+    }
+}
+
+/// Modus ponens of the sentence `p` and the second argument.
+fn modus_ponens(
+    alloc: Global,
+    store: &mut Store,
+    base: &[SentId],
+    p: SentId,
+    w: Value,
+    at: Pos,
+) -> Result<Outcome, AllocError>
+    requires base { AreIn store.old base.now }
+    requires implication { p.0 < length store.old.sents }
+    requires small { IsSmall (sent_at store.old.sents p.0) }
+    requires premise { IsGood store.old w }
+    ensures grows { Grows store.old store.new }
+    ensures outcome { IfOk result (λ o. IsAnswer store.new o (methods.modus_ponens (sents_of store.old base.now) (sent_at store.old.sents p.0) (sentence_of (value_at store.old w)) at)) }
+{
+    match implication_parts(store, p) {
+        Some(parts) => {
+            let outcome = from_implication(alloc, store, base, p, parts, w, at)?;
+            Ok(outcome)
+        }
+        None => {
+            let outcome = numbered(alloc, FaultKind::WrongShape, 1, at)?;
+            Ok(outcome)
+        }
+    }
+}
+
+/// Modus ponens of the two arguments.
+pub(crate) fn mp(
+    alloc: Global,
+    store: &mut Store,
+    base: &[SentId],
+    v: Value,
+    w: Value,
+    at: Pos,
+) -> Result<Outcome, AllocError>
+    requires base { AreIn store.old base.now }
+    requires implication { IsGood store.old v }
+    requires premise { IsGood store.old w }
+    ensures grows { Grows store.old store.new }
+    ensures outcome { IfOk result (λ o. IsAnswer store.new o (methods.mp (sents_of store.old base.now) (sentence_of (value_at store.old v)) (sentence_of (value_at store.old w)) at)) }
+{
+    match sentence(store, v)? {
+        Some(p) => {
+            let outcome = modus_ponens(alloc, store, base, p, w, at)?;
+            Ok(outcome)
+        }
+        None => {
+            let outcome = numbered(alloc, FaultKind::WrongKind, 1, at)?;
+            Ok(outcome)
+        }
+    }
+}

@@ -1,6 +1,7 @@
 pub mod Arguments
 pub mod Base
 pub mod Evaluation
+pub mod Laws
 pub mod Machine
 pub mod Methods
 pub mod Outcomes

@@ -3,6 +3,7 @@
 
 pub mod calls;
 mod frame;
+pub mod laws;
 mod machine;
 mod methods;
 mod parts;

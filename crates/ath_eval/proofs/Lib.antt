@@ -2,8 +2,11 @@ pub mod Arguments
 pub mod Base
 pub mod Counts
 pub mod Frames
+pub mod Fuel
 pub mod Joined
 pub mod Ponens
+pub mod Regular
 pub mod Returns
 pub mod Shapes
+pub mod Sound
 pub mod Stretches

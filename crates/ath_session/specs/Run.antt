@@ -143,4 +143,4 @@ Moves texts c m = Turns texts c c.stack m
 -- some steps, and what they did
 pub data Runs (texts : List (List ℕ × List ℕ)) (start : Configuration) : List Item → Configuration → Type 0 where
   at_start : Runs texts start [] start
-  one_more : {done items : List Item} {c d : Configuration} → Runs texts start done c → Moves texts c (goes items d) → Runs texts start (done ++ items) d
+  one_more : {done : List Item} {c d : Configuration} (items : List Item) → Runs texts start done c → Moves texts c (goes items d) → Runs texts start (done ++ items) d

@@ -1,7 +1,7 @@
 // A session: the state of a run, and one directive after the other.
 
-ghost use Rattle.std.specs.Prelude.{◌≡◌, ◌≤◌, ◌<◌, [], ◌∷◌, ◌++◌, IfOk, OnOk, Some, None, Option, length, map};
-ghost use Rattle.ath_names.specs.Names.{Grows as NamesGrow, first_names};
+ghost use Rattle.std.specs.Prelude.{◌≡◌, ◌≤◌, ◌<◌, [], ◌∷◌, ◌++◌, IfOk, OnOk, Some, None, Option, length, map, take};
+ghost use Rattle.ath_names.specs.Names.{first_names};
 ghost use Rattle.ath_syntax.specs.Stands.{IsDirective, IsPhrase, IsStatement};
 ghost use Rattle.ath_syntax.specs.Tree.{DirectiveTree, Phrase, Statement};
 ghost use Rattle.ath_reader.specs.Reading.{Answers};
@@ -53,7 +53,7 @@ pub struct Reply {
 pub struct Session {
     pub world: World,
     operators: OpTable,
-    ghost table: { NamesGrow first_names world.names },
+    ghost table: { take (length first_names) world.names ≡ first_names },
     ghost boolean: { arity_of world.sig (record { 0 = 0 }) ≡ Some 0 },
 }
 

@@ -1,5 +1,6 @@
--- Each theorem of a run has a derivation.
-use Rattle.std.proofs.Common.{◌≡◌, ◌==◌, ◌⊎◌, ℕ, Bool, true, false, nat_lt, List, [], ◌∷◌, ◌++◌, length, Option, Some, None, refl, sym, subst, inl, inr, if◌then◌else◌}
+-- What a directive keeps; and each theorem of a run has a derivation.
+use Rattle.std.proofs.Common.{◌≡◌, ◌==◌, ◌⊎◌, ℕ, ◌≤◌, Bool, true, false, true≢false, ◌||◌, nat_lt, List, [], ◌∷◌, ◌++◌, length, Option, Some, None, refl, sym, subst, inl, inr, le_refl, zero-le, if◌then◌else◌}
+use Rattle.std.specs.List.{list_any}
 use Rattle.std.specs.Str.{is_utf8}
 use Rattle.ath_io.specs.Shelf.{front_of}
 use Rattle.ath_words.specs.Words.{Asked, run_of}
@@ -16,24 +17,112 @@ use Rattle.ath_calculus.specs.Laws.{Extends}
 use Rattle.ath_calculus.proofs.Grown.{well_sorted}
 use Rattle.ath_env.specs.Values.{Value, sentence_of}
 use Rattle.ath_print.specs.declared.fault.FaultKind.TheVariants.{BadUtf8, FileTooLong, TooManyLoads}
-use Rattle.ath_print.specs.Events.{Event}
+use Rattle.ath_print.specs.Events.{Refusal, Event, declared, asserted, proved, shown, refused, exhausted, is_refused, is_exhausted}
 use Rattle.ath_print.specs.Events as events
 use Rattle.ath_reader.specs.Reading.{Reading, reached}
 use Rattle.ath_reader.specs.Next as reading
 use Rattle.ath_eval.specs.Outcomes.{refusal, Outcome, gives, concludes, fails, exhausts}
 use Rattle.ath_eval.specs.Evaluation.{most_nested, outcome_of, place}
-use Rattle.ath_eval.specs.Laws.{AreTruthValues, IsSoundBase}
+use Rattle.ath_eval.specs.Laws.{AreTruthValues, IsSoundBase, NoMoreThan}
+use Rattle.ath_eval.proofs.Fuel.{never-rises}
 use Rattle.ath_eval.proofs.Sound.{conclusions-follow, values-sorted, base_grown, base_joined, truths_last}
-use Rattle.ath_session.specs.State.{State, first_state, context, with_fuel, with_names, with_constants, first_taken}
+use Rattle.ath_session.specs.State.{State, first_state, context, with_fuel, with_names, joining, with_constants, first_taken}
 use Rattle.ath_session.specs.Built.{unbuilt_in}
-use Rattle.ath_session.specs.Directives.{Next, goes_on, loads, ends, Effect, declaring, asserting, asserting_sentence, showing, refusing, loading, done, unless_unbuilt, effect}
+use Rattle.ath_session.specs.Directives.{Next, goes_on, loads, ends, Effect, telling, declaring, asserting, asserting_sentence, ending, showing, refusing, loading, done, unless_unbuilt, effect}
 use Rattle.ath_session.specs.Run.{Item, asks, tells, Configuration, Halt, Move, goes, halts, most_bytes, most_asked, most_loads, reading_of, opened, fetched, asking, beginning_of, next_file, tell_all, following, place_of, turned, Turns, Runs, at_start, one_more, said}
 use Rattle.ath_session.specs.Report.{Report, start, IsLogOf, IsReportOf}
 use Rattle.ath_session.specs.Theorems.{signature_after, asserted_after, IsJustified, AreJustified, TheoremsFollow}
-use Rattle.ath_session.specs.Laws.{EachTheoremFollows}
+use Rattle.ath_session.specs.Laws.{EachTheoremFollows, IsSameButFuel, RefusedLeavesState, FuelNeverRises, ExhaustedKeepsState}
 
 abbrev Texts : Type 0
 Texts = List (List ℕ × List ℕ)
+
+-- ---- what a directive keeps
+record Kept (st : State) (e : Effect) : Type 0 where
+  refusal : list_any is_refused e.events ≡ true → IsSameButFuel st e.state × ((x : Event) × (e.events ≡ x ∷ []))
+  exhaustion : list_any is_exhausted e.events ≡ true → IsSameButFuel st e.state × (e.state.fuel ≡ 0) × (e.next ≡ ends) × ((at : Pos) × (e.events ≡ exhausted at ∷ []))
+  fuel : e.state.fuel ≤ st.fuel
+
+not-either : (b : Bool) → b ≡ false → (b || false) ≡ true → ⊥
+not-either true e f = true≢false e
+not-either false e f = true≢false (sym f)
+
+told-kept : (st new : State) (x : Event) → is_refused x ≡ false → is_exhausted x ≡ false → new.fuel ≤ st.fuel → Kept st (telling new x)
+told-kept st new x e f le = record {
+  refusal = λ g. absurd (not-either (is_refused x) e g);
+  exhaustion = λ g. absurd (not-either (is_exhausted x) f g);
+  fuel = le;
+}
+
+refusing-kept : (st : State) (left : ℕ) → left ≤ st.fuel → (at : Pos) (why : Refusal) → Kept st (refusing (with_fuel st left) at why)
+refusing-kept st left le at why = record {
+  refusal = λ g. (refl, (refused at why, refl));
+  exhaustion = λ g. absurd (true≢false (sym g));
+  fuel = le;
+}
+
+refused-kept : (st : State) (at : Pos) (why : Refusal) → Kept st (refusing st at why)
+refused-kept st at why = refusing-kept st st.fuel (le_refl st.fuel) at why
+
+ending-kept : (st : State) (at : Pos) → Kept st (ending st at)
+ending-kept st at = record {
+  refusal = λ g. absurd (true≢false (sym g));
+  exhaustion = λ g. (refl, refl, refl, (at, refl));
+  fuel = zero-le;
+}
+
+declaring-kept : (st : State) (at : Pos) (ns : List Sym) (taken : Option Sym) → Kept st (declaring st at ns taken)
+declaring-kept st at ns (Some n) = refused-kept st at _
+declaring-kept st at ns None = told-kept st (record st { signature = with_constants st.signature ns }) (declared ns) refl refl (le_refl st.fuel)
+
+sentence-kept : (st : State) (left : ℕ) → left ≤ st.fuel → (at : Pos) (o : Option Sent) → Kept st (asserting_sentence (with_fuel st left) at o)
+sentence-kept st left le at (Some p) = told-kept st (joining (with_fuel st left) p) (asserted p) refl refl le
+sentence-kept st left le at None = refusing-kept st left le at _
+
+asserting-kept : (st : State) (at : Pos) (o : Outcome) → NoMoreThan st.fuel o → Kept st (asserting st at o)
+asserting-kept st at (gives v left) le = sentence-kept st left le at (sentence_of v)
+asserting-kept st at (concludes p left) le = sentence-kept st left le at (Some p)
+asserting-kept st at (fails inner why left) le = refusing-kept st left le inner why
+asserting-kept st at (exhausts inner) le = ending-kept st inner
+
+showing-kept : (st : State) (o : Outcome) → NoMoreThan st.fuel o → Kept st (showing st o)
+showing-kept st (gives v left) le = told-kept st (with_fuel st left) (shown v) refl refl le
+showing-kept st (concludes p left) le = told-kept st (joining (with_fuel st left) p) (proved p) refl refl le
+showing-kept st (fails at why left) le = refusing-kept st left le at why
+showing-kept st (exhausts at) le = ending-kept st at
+
+loading-kept : (st : State) (at : Pos) (name : List ℕ) → Kept st (loading st at name)
+loading-kept st at name = go (is_utf8 name)
+  where
+    go : (b : Bool) → Kept st (if b then record { state = st; events = []; next = loads name } else refusing st at (refusal BadUtf8 []))
+    go true = record { refusal = λ g. absurd (true≢false (sym g)); exhaustion = λ g. absurd (true≢false (sym g)); fuel = le_refl st.fuel }
+    go false = refused-kept st at _
+
+done-kept : (st : State) (at : Pos) (s : Statement) → Kept st (done st at s)
+done-kept st at (declare_is ns params args result) = declaring-kept st at ns (first_taken st.signature ns)
+done-kept st at (assert_is n closed x) = asserting-kept st (place x) (outcome_of (context st) x st.fuel) (never-rises (context st) most_nested x st.fuel)
+done-kept st at (load_is name) = loading-kept st at name
+done-kept st at (phrase_is x) = showing-kept st (outcome_of (context st) x st.fuel) (never-rises (context st) most_nested x st.fuel)
+done-kept st at (domain_is n vs) = refused-kept st at _
+done-kept st at (datatype_is n vs cs) = refused-kept st at _
+done-kept st at (define_is n x) = refused-kept st at _
+done-kept st at (define_fun_is f xs x) = refused-kept st at _
+
+unless-kept : (st : State) (at : Pos) (s : Statement) (o : Option Pos) → Kept st (unless_unbuilt st at s o)
+unless-kept st at s (Some inner) = refused-kept st inner _
+unless-kept st at s None = done-kept st at s
+
+effect-kept : (st : State) (d : DirectiveTree) → Kept st (effect st d)
+effect-kept st (directive_at at s) = unless-kept st at s (unbuilt_in st.names at s)
+
+pub refused_leaves_state : RefusedLeavesState
+refused_leaves_state = λ st d. (effect-kept st d).refusal
+
+pub fuel_never_rises : FuelNeverRises
+fuel_never_rises = λ st d. (effect-kept st d).fuel
+
+pub exhausted_keeps_state : ExhaustedKeepsState
+exhausted_keeps_state = λ st d. (effect-kept st d).exhaustion
 
 -- ---- a signature with more constants
 among-append : (ss ts : List Symbol) (n : Sym) (d : Symbol) → symbol_among ss n ≡ Some d → symbol_among (ss ++ ts) n ≡ Some d

@@ -1,10 +1,11 @@
 -- Laws of directives, runs and reports.
-use Rattle.std.specs.Prelude.{◌≡◌, ◌↔◌, ℕ, Bool, true, false, ◌==◌, List, [], ◌∷◌, ◌++◌, take, codes, Some}
+use Rattle.std.specs.Prelude.{◌≡◌, ◌↔◌, ℕ, ◌≤◌, Bool, true, false, ◌==◌, List, [], ◌∷◌, ◌++◌, take, codes, Some}
 use Rattle.std.specs.List.{list_any, AllByRecursion}
+use Rattle.ath_syntax.specs.declared.place.Pos.{Pos}
 use Rattle.ath_syntax.specs.Tree.{DirectiveTree}
-use Rattle.ath_print.specs.Events.{Event, declared, asserted, proved, shown, refused, exhausted, is_refused}
+use Rattle.ath_print.specs.Events.{Event, declared, asserted, proved, shown, refused, exhausted, is_refused, is_exhausted}
 use Rattle.ath_session.specs.State.{State}
-use Rattle.ath_session.specs.Directives.{effect}
+use Rattle.ath_session.specs.Directives.{ends, effect}
 use Rattle.ath_session.specs.Run.{Said, Item, asks, tells}
 use Rattle.ath_session.specs.Report.{Report, IsReport}
 use Rattle.ath_session.specs.Theorems.{TheoremsFollow}
@@ -24,6 +25,14 @@ IsSameButFuel old new = new ≡ record old { fuel = new.fuel }
 -- a directive that is refused has that one event, and leaves all of the state but the fuel
 abbrev pub RefusedLeavesState : Type 0
 RefusedLeavesState = (st : State) (d : DirectiveTree) → list_any is_refused (effect st d).events ≡ true → IsSameButFuel st (effect st d).state × ((e : Event) × ((effect st d).events ≡ e ∷ []))
+
+-- a directive never adds fuel
+abbrev pub FuelNeverRises : Type 0
+FuelNeverRises = (st : State) (d : DirectiveTree) → (effect st d).state.fuel ≤ st.fuel
+
+-- a directive that is exhausted has that one event, leaves all of the state but the fuel, of which none is left, and ends the run
+abbrev pub ExhaustedKeepsState : Type 0
+ExhaustedKeepsState = (st : State) (d : DirectiveTree) → list_any is_exhausted (effect st d).events ≡ true → IsSameButFuel st (effect st d).state × ((effect st d).state.fuel ≡ 0) × ((effect st d).next ≡ ends) × ((at : Pos) × ((effect st d).events ≡ exhausted at ∷ []))
 
 abbrev pub has_line_end : List ℕ → Bool
 has_line_end text = list_any (λ b. b == 10) text

@@ -113,7 +113,7 @@ same-reports : (r s : Report) → r.log ≡ s.log → r.status ≡ s.status → 
 unfolding report
 same-reports r s e f = ap₂ report e f
 
-one-report-of : OneNext → (texts : Texts) (asked : Option Asked) (r s : Report) → IsReportOf texts asked r → IsReportOf texts asked s → r ≡ s
+pub one-report-of : OneNext → (texts : Texts) (asked : Option Asked) (r s : Report) → IsReportOf texts asked r → IsReportOf texts asked s → r ≡ s
 one-report-of one texts None r s e f = e ∙ sym f
 one-report-of one texts (Some run) r s i j =
     let same = one_log one texts (start run) r.log s.log i.0 j.0 i.1 j.1 in

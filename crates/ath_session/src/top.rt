@@ -1,10 +1,11 @@
 // The program's one call.
 
-ghost use Rattle.std.specs.Prelude.{◌≡◌, ◌≤◌, ◌⊎◌, None, map, string_bytes, IfOk};
+ghost use Rattle.std.specs.Prelude.{◌≡◌, ◌≤◌, ◌⊎◌, None, Some, map, string_bytes, IfOk};
 ghost use Rattle.ath_io.specs.Faults.{Rose};
+ghost use Rattle.ath_io.specs.Shelf.{Texts};
 ghost use Rattle.ath_words.specs.Words.{run_of};
 ghost use Rattle.ath_session.specs.declared.status.Status.TheVariants.{Memory, SinkFault, SourceFault, Usage};
-ghost use Rattle.ath_session.specs.Ends.{ReportsTold, Completes};
+ghost use Rattle.ath_session.specs.Ends.{Reports, ReportsTold, Completes};
 ghost use Rattle.ath_session.specs.Steps.{IsNewDesk};
 
 use crate::desk::{Desk, Flow, advance};
@@ -65,7 +66,14 @@ fn run_files<S: Shelf, K: Sink>(
     files: &[&str],
     shelf: &mut S,
     sink: &mut K,
-) -> Status {
+) -> Status
+    ensures report { (t : Texts) → S.told shelf.old ≡ Some t → Reports t.texts (record { fuel = fuel; files = map (λ file. file.now) files.now }) result (record { shelf = S.told shelf.old; sink = K.told sink.old }) (record { shelf = S.told shelf.new; sink = K.told sink.new }) }
+    ensures no_usage { result ≡ Usage → ⊥ }
+    ensures source_later { S.faults shelf.old ≤ S.faults shelf.new }
+    ensures source_cause { result ≡ SourceFault → Rose (S.faults shelf.old) (S.faults shelf.new) }
+    ensures sink_later { K.faults sink.old ≤ K.faults sink.new }
+    ensures sink_cause { result ≡ SinkFault → Rose (K.faults sink.old) (K.faults sink.new) }
+{
     let Ok(mut desk) = desk_of(alloc, fuel, files) else {
         return Status::Memory;
     };

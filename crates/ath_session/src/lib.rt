@@ -6,6 +6,8 @@ mod desk;
 pub mod laws;
 pub mod session;
 pub mod status;
+#[cfg(test)]
+mod tests;
 pub mod top;
 
 pub use session::{Next, Reply, Session};

@@ -1,5 +1,5 @@
 -- What is built, by the nodes of phrases.
-use Rattle.std.proofs.Common.{◌≡◌, ℕ, ◌<◌, ◌+◌, ◌&&◌, ◌||◌, not, Bool, true, false, List, [], ◌∷◌, length, get_or, take, drop, Option, Some, None, is_some, cond, refl, sym, ◌∙◌, ap, subst, add-one, drop-cons, arith}
+use Rattle.std.proofs.Common.{◌≡◌, ℕ, ◌<◌, ◌+◌, ◌&&◌, not, Bool, true, false, List, [], ◌∷◌, length, get_or, take, drop, Option, Some, None, is_some, cond, refl, sym, ◌∙◌, ap, subst, add-one, drop-cons, arith}
 use Rattle.std.specs.Prelude.{slice_get, codes}
 use Rattle.std.specs.List.{All}
 use Rattle.std.specs.Str.{bytes_eq}
@@ -44,9 +44,6 @@ module _ (s : Nodes) where
       All-weaker (IsPart (before s n)) (λ (i : PhraseId). i.0 < n) (below n) is k.2
 
   -- ---- the node of a phrase
-  pub part_here : (i : PhraseId) → ((x : Phrase) × IsPhrase s i x) → i.0 < length s.phrases
-  part_here i h = part_of s i h.0 h.1
-
   pub place_here : (i : PhraseId) (n : Node) (x : Phrase) → slice_get s.phrases i.0 ≡ Some n → IsPhrase s i x → place x ≡ n.pos
   place_here i n x at h = place_of s n.pos n.form x (form_here s i n x h at)
 

@@ -1,5 +1,5 @@
 -- What a directive says, by its kind.
-use Rattle.std.proofs.Common.{◌≡◌, List, [], Bool, true, false, ◌||◌, Option, Some, None, is_some, ℕ, refl, sym, ◌∙◌, ap, subst}
+use Rattle.std.proofs.Common.{◌≡◌, List, [], Bool, true, false, ◌||◌, Option, Some, None, is_some, ℕ, refl, subst}
 use Rattle.ath_sorts.specs.declared.sorts.Sym.{Sym}
 use Rattle.ath_syntax.specs.declared.place.Pos.{Pos}
 use Rattle.ath_syntax.specs.declared.node.PhraseId.{PhraseId}
@@ -56,12 +56,7 @@ other_here s w x (says_assert {x = n} {closed = c} {i = i} h) nd na nl np = absu
 other_here s w x (says_load {b = b}) nd na nl np = absurd (nl b refl)
 other_here s w x (says_phrase {i = i} h) nd na nl np = absurd (np i refl)
 
--- an assertion that is named or closed is told at its place
-pub assert_other : (names : List (List ℕ)) (at : Pos) (n : Option Sym) (closed : Bool) (t : Phrase) → (is_some n || closed) ≡ true → Some at ≡ built.unbuilt_in names at (assert_is n closed t)
-assert_other names at (Some n) closed t e = refl
-assert_other names at None true t e = refl
-assert_other names at None false t e = absurd (cc)
-
+-- an assertion that is neither named nor closed is told as its phrase
 pub assert_bare : (names : List (List ℕ)) (at : Pos) (n : Option Sym) (closed : Bool) (t : Phrase) → (is_some n || closed) ≡ false → built.unbuilt names t ≡ built.unbuilt_in names at (assert_is n closed t)
 assert_bare names at None false t e = refl
 assert_bare names at None true t e = absurd (cc)

@@ -65,8 +65,8 @@ pub returns-else-is_method_name-clause-parts : goal.returns-else-is_method_name-
 returns-else-is_method_name-clause-parts c =
     call_parts c.args.phrases.now c.args.names.now false c.args.phrase c.node.result.now c.in-Call.head c.in-Call.parts c.node.ensures.node c.in-Call.is
     (λ y ys k m. elim c.else-is_method_name.branch [
-      else-is_method_name-via-then-is_method_name+else-are_expressions w ↦ second_fails w.are_expressions.result (built.is_method_name c.args.names.now y) _ w.if-are_expressions.false (w.are_expressions.ensures ys (rw c.as_slice-parts.ensures m))
-    | else-is_method_name-via-else-is_method_name w ↦ first_fails c.is_method_name.result _ (built.are_expressions ys) w.if-is_method_name.false (c.is_method_name.ensures y k)
+      | else-is_method_name-via-then-is_method_name+else-are_expressions w ↦ second_fails w.are_expressions.result (built.is_method_name c.args.names.now y) _ w.if-are_expressions.false (w.are_expressions.ensures ys (rw c.as_slice-parts.ensures m))
+      | else-is_method_name-via-else-is_method_name w ↦ first_fails c.is_method_name.result _ (built.are_expressions ys) w.if-is_method_name.false (c.is_method_name.ensures y k)
     ])
 
 pub returns-in_default : goal.returns-in_default

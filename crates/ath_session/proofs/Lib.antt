@@ -1,0 +1,5 @@
+pub mod BuiltLaws
+pub mod Declares
+pub mod ReplyLaws
+pub mod SessionLaws
+pub mod StatementLaws

@@ -1,7 +1,9 @@
 // What isn't built yet.
 
-ghost use Rattle.std.specs.Prelude.{◌≡◌, option_map};
-ghost use Rattle.ath_syntax.specs.Stands.{IsPhrase, IsNode, ArePhrases, IsStatement};
+ghost use Rattle.std.specs.Prelude.{◌≡◌, ◌<◌, option_map, IfSome};
+ghost use Rattle.std.specs.List.{All};
+ghost use Rattle.ath_env.specs.LookUp.{text_of};
+ghost use Rattle.ath_syntax.specs.Stands.{IsPhrase, ArePhrases, IsStatement};
 ghost use Rattle.ath_syntax.specs.Tree.{Phrase, Phrases as PhraseTrees, Statement};
 ghost use Rattle.ath_session.specs.Built.{is_name, is_method_name, are_expressions, unbuilt, is_boolean, is_boolean_constant, no_parameters, unbuilt_in};
 ghost use Rattle.ath_session.specs.BuiltParts.{AreParts, parts};
@@ -9,17 +11,34 @@ ghost use Rattle.ath_session.specs.BuiltParts.{AreParts, parts};
 use ath_names::Names;
 use ath_sorts::Sym;
 use ath_sorts::sorts::BOOLEAN;
-use ath_syntax::{Form, Node, PhraseId, Phrases, Pos, SortText, What};
+use ath_syntax::{Form, PhraseId, Phrases, Pos, SortText, What};
 use sqlite_items::Items;
+
+// The text of a name: none where the table lacks it.
+fn text_of(names: &Names, name: Sym) -> &str
+    ensures { result.now ≡ text_of names.now name }
+{
+    if name.0 < names.len() {
+        return names.text(name.0);
+    }
+    ""
+}
 
 fn is_name(names: &Names, phrases: &Phrases, phrase: PhraseId, text: &str) -> bool
     requires { (x : Phrase) × IsPhrase phrases.now phrase x }
     ensures { (x : Phrase) → IsPhrase phrases.now phrase x → result ≡ is_name names.now text.now x }
 {
     match &phrases.node(phrase).form {
-        Form::Name(name) => name.0 < names.len() && names.text(name.0) == text,
-        _ => false,
+        Form::Name(name) => text_of(names, *name) == text,
+        _other => false,
     }
+}
+
+fn is_method_name(names: &Names, phrases: &Phrases, phrase: PhraseId) -> bool
+    requires { (x : Phrase) × IsPhrase phrases.now phrase x }
+    ensures { (x : Phrase) → IsPhrase phrases.now phrase x → result ≡ is_method_name names.now x }
+{
+    is_name(names, phrases, phrase, "mp") || is_name(names, phrases, phrase, "claim")
 }
 
 fn are_expressions(phrases: &Phrases, parts: &[PhraseId]) -> bool
@@ -35,11 +54,12 @@ fn are_expressions(phrases: &Phrases, parts: &[PhraseId]) -> bool
 }
 
 /// The parts of a built node, which have to be built too; none where the node isn't built.
-fn built_parts<'a>(names: &Names, phrases: &Phrases, node: &'a Node) -> Option<&'a [PhraseId]>
-    requires { (x : Phrase) × IsNode phrases.now node.now x }
-    ensures { (x : Phrase) → IsNode phrases.now node.now x → AreParts phrases.now (option_map (λ is. is.now) result) (parts names.now x) }
+fn built_parts<'a>(names: &Names, phrases: &'a Phrases, phrase: PhraseId) -> Option<&'a [PhraseId]>
+    requires { (x : Phrase) × IsPhrase phrases.now phrase x }
+    ensures parts { (x : Phrase) → IsPhrase phrases.now phrase x → AreParts phrases.now (option_map (λ is. is.now) result) (parts names.now x) }
+    ensures smaller { IfSome result (λ is. All (λ i. i.0 < phrase.0) is.now) }
 {
-    match &node.form {
+    match &phrases.node(phrase).form {
         Form::Name(_) => Some(&[]),
         Form::Apply(head, parts) => {
             if is_name(names, phrases, *head, "if") {
@@ -49,13 +69,12 @@ fn built_parts<'a>(names: &Names, phrases: &Phrases, node: &'a Node) -> Option<&
         }
         Form::Call(head, parts) => {
             let parts = parts.as_slice();
-            let method = is_name(names, phrases, *head, "mp") || is_name(names, phrases, *head, "claim");
-            if method && are_expressions(phrases, parts) {
+            if is_method_name(names, phrases, *head) && are_expressions(phrases, parts) {
                 return Some(parts);
             }
             None
         }
-        _ => None,
+        _other => None,
     }
 }
 
@@ -64,9 +83,8 @@ pub(crate) fn unbuilt(names: &Names, phrases: &Phrases, phrase: PhraseId) -> Opt
     requires { (x : Phrase) × IsPhrase phrases.now phrase x }
     ensures { (x : Phrase) → IsPhrase phrases.now phrase x → result ≡ unbuilt names.now x }
 {
-    let node = phrases.node(phrase);
-    let Some(parts) = built_parts(names, phrases, node) else {
-        return Some(node.pos);
+    let Some(parts) = built_parts(names, phrases, phrase) else {
+        return Some(phrases.node(phrase).pos);
     };
     for part in parts {
         let found = unbuilt(names, phrases, *part);
@@ -109,9 +127,14 @@ pub(crate) fn unbuilt_in(names: &Names, phrases: &Phrases, at: Pos, what: &What)
             }
             Some(at)
         }
-        What::Assert(None, false, phrase) => unbuilt(names, phrases, *phrase),
+        What::Assert(name, closed, phrase) => {
+            if name.is_some() || *closed {
+                return Some(at);
+            }
+            unbuilt(names, phrases, *phrase)
+        }
         What::Load(_) => None,
         What::Phrase(phrase) => unbuilt(names, phrases, *phrase),
-        _ => Some(at),
+        _other => Some(at),
     }
 }

@@ -87,7 +87,10 @@ fn find_taken(alloc: Global, sig: &Signature, names: &[Sym]) -> Result<Option<Sy
 {
     let mut seen: IndexSet<Sym> = IndexSet::new(alloc);
     for name in names {
-        if sig.symbol(*name).is_some() || !seen.insert(*name)? {
+        if sig.symbol(*name).is_some() {
+            return Ok(Some(*name));
+        }
+        if !seen.insert(*name)? {
             return Ok(Some(*name));
         }
     }
@@ -98,14 +101,18 @@ fn find_taken(alloc: Global, sig: &Signature, names: &[Sym]) -> Result<Option<Sy
 fn add_constants(alloc: Global, sig: &mut Signature, names: &[Sym]) -> Result<(), AllocError>
     requires boolean { arity_of sig.old (record { 0 = 0 }) ≡ Some 0 }
     requires free { first_taken sig.old names.now ≡ None }
-    ensures { OnOk result (sig.new ≡ with_constants sig.old names.now) }
+    ensures added { OnOk result (sig.new ≡ with_constants sig.old names.now) }
+    ensures sorts { sig.new.sorts ≡ sig.old.sorts }
 {
     let boolean = Sort::Con(BOOLEAN, Items::new(alloc));
     let none: Vec<Sym> = Vec::new(alloc);
     let no_sorts: Vec<Sort> = Vec::new(alloc);
     for name in names {
         // No other refusal comes: the name isn't taken, and the sort is there.
-        if sig.add_symbol(alloc, *name, &none, &no_sorts, &boolean).is_err() {
+        if sig
+            .add_symbol(alloc, *name, &none, &no_sorts, &boolean)
+            .is_err()
+        {
             return Err(AllocError);
         }
     }
@@ -189,7 +196,11 @@ impl Session {
             What::Assert(_, _, phrase) => self.assert(alloc, *phrase),
             What::Load(name) => self.load(alloc, directive.pos, name.as_slice()),
             What::Phrase(phrase) => self.show(alloc, *phrase),
-            _ => self.refuse(alloc, directive.pos, Fault::plain(alloc, FaultKind::NotBuilt)),
+            _other => self.refuse(
+                alloc,
+                directive.pos,
+                Fault::plain(alloc, FaultKind::NotBuilt),
+            ),
         }
     }
 

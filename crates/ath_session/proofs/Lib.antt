@@ -1,0 +1,4 @@
+pub mod DeskLaws
+pub mod TellingLaws
+pub mod WeightLaws
+pub mod MoveLaws

@@ -2,3 +2,4 @@ pub mod DeskLaws
 pub mod TellingLaws
 pub mod WeightLaws
 pub mod MoveLaws
+pub mod ReadLaws

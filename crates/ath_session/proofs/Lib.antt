@@ -3,3 +3,4 @@ pub mod TellingLaws
 pub mod WeightLaws
 pub mod MoveLaws
 pub mod ReadLaws
+pub mod AdvanceLaws

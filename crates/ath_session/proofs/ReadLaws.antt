@@ -1,6 +1,7 @@
 -- What a text that is read on does.
-use Rattle.std.proofs.Common.{◌≡◌, ◌⊎◌, inl, inr, ℕ, suc, ◌+◌, ◌<◌, ◌≤◌, ◌-◌, Bool, true, false, List, [], ◌∷◌, ◌++◌, length, map, reverse, Option, Some, None, Result, Ok, Err, refl, sym, ◌∙◌, ap, subst, arith}
+use Rattle.std.proofs.Common.{◌≡◌, ◌⊎◌, inl, inr, ℕ, suc, ◌+◌, ◌<◌, ◌≤◌, ◌-◌, Bool, true, false, List, [], ◌∷◌, ◌++◌, length, map, reverse, Option, Some, None, Result, Ok, Err, refl, sym, ◌∙◌, ap, subst, arith, if◌then◌else◌}
 use Rattle.std.specs.List.{All}
+use Rattle.std.specs.Result.{is_ok, is_err}
 use Rattle.std.proofs.lemmas.List.{length-reverse, length-append, reverse-append}
 use Rattle.std.proofs.lemmas.List.Elements.{All-cons, All-tail, All-same, All-head}
 use Rattle.std.proofs.Math.Bool.{or-false}
@@ -15,7 +16,7 @@ use Rattle.ath_reader.specs.declared.reader.SyntaxError.{SyntaxError}
 use Rattle.ath_reader.specs.declared.reader.SyntaxKind.{SyntaxKind}
 use Rattle.ath_reader.specs.declared.reader.SyntaxKind.TheVariants.{Memory as NoMemory}
 use Rattle.ath_reader.specs.Ahead.{Ahead, a_token, the_end, a_fault}
-use Rattle.ath_reader.specs.Reading.{Reading, reached, Fails, Wants}
+use Rattle.ath_reader.specs.Reading.{Reading, Progress, reached, Fails, Wants, Answers}
 use Rattle.ath_reader.specs.Next.{Next, whole, ended, stopped, Spelled, IsNext, OneNext, byte_reached}
 use Rattle.ath_grammar.specs.Tokens.{Placed}
 use Rattle.ath_print.specs.Events.{refused}
@@ -26,7 +27,7 @@ use Rattle.ath_session.specs.declared.desk.Flow.{Flow}
 use Rattle.ath_session.specs.declared.desk.Flow.TheVariants.{On, End}
 use Rattle.ath_session.specs.State.{State, with_names}
 use Rattle.ath_session.specs.Directives.{effect}
-use Rattle.ath_session.specs.Run.{Configuration, Move, goes, said, following, fault_kind, place_of, turned, Moves}
+use Rattle.ath_session.specs.Run.{Configuration, Move, goes, items_of, said, following, fault_kind, place_of, turned, Moves}
 use Rattle.ath_session.specs.Ends.{Outside, after_items}
 use Rattle.ath_session.specs.Steps.{Did, IsGoing, AreGoing}
 use Rattle.ath_session.proofs.DeskLaws.{no_items, nothing_done}
@@ -83,3 +84,33 @@ module _ (texts : List (List ℕ × List ℕ)) (c : Configuration) (r : Reading)
          ∙ ap (λ (p : Pos). following texts (record c { stack = record r { progress = reached to } ∷ c.stack; state = (effect (with_names names' c.state) t).state }) (length c.stack) p (effect (with_names names' c.state) t).events (effect (with_names names' c.state) t).next) (sym (place_is s d t stands))
          ∙ sym (move_is (whole t to names') h))
         did
+
+pub reads : (r : Reading) (from : ℕ) (names : List (List ℕ)) (s : Nodes) (result : Result (Option Directive) SyntaxError) (new : Reading) (names' : List (List ℕ)) (s' : Nodes) → r.progress ≡ reached from → Answers r r.progress names s result new names' s' → Answers r (reached from) names s result new names' s'
+reads r from names s result new names' s' at h = subst (λ (p : Progress). Answers r p names s result new names' s') at h
+
+pub same_state : (st st' : State) (names : List (List ℕ)) → st' ≡ with_names names st → names ≡ st.names → st' ≡ st
+same_state st st' names is same = is ∙ ap (λ (known : List (List ℕ)). with_names known st) same
+
+pub pushed : {T E : Type 0} (r : Result T E) (xs ys : List Reading) (x : Reading) → ys ≡ (if is_ok r then xs ++ x ∷ [] else xs) → is_err r ≡ false → ys ≡ xs ++ x ∷ []
+pushed (Ok u) xs ys x h e = h
+pushed (Err u) xs ys x h e = absurd (cc)
+
+pub read_to : (c : Configuration) (stack stack' : List Reading) (st st' : State) → stack ≡ stack' → st ≡ st' → record c { stack = stack; state = st } ≡ record c { stack = stack'; state = st' }
+read_to c stack stack' st st' e f = ap (λ (rs : List Reading). record c { stack = rs; state = st }) e ∙ ap (λ (s : State). record c { stack = stack'; state = s }) f
+
+-- a refusal, or want of memory
+module _ (r : Reading) (names : List (List ℕ)) (from : ℕ) (e : SyntaxError) (names' : List (List ℕ)) (s s' : Nodes) where
+  pub refusal_next : (Wants e names names' s s' ⊎ (IsNext r names from (stopped e names') × (s' ≡ s))) → (e.kind ≡ NoMemory → ⊥) → IsNext r names from (stopped e names')
+  refusal_next (inl w) other = absurd (other w.kind)
+  refusal_next (inr h) other = h.0
+
+  -- what is done then
+  module _ (m : Move) (flow : Flow) (before after : Bool) (k : Configuration) (told : Option Texts) (sink sink' : Option Held) where
+    no_memory_did : flow ≡ End Memory → sink' ≡ sink → Did m flow before after k (record { shelf = told; sink = sink }) (record { shelf = told; sink = sink' })
+    no_memory_did is same =
+        subst (λ (f : Flow). Did m f before after k (record { shelf = told; sink = sink }) (record { shelf = told; sink = sink' })) (sym is)
+        ([], items_of m, (refl, ap (λ (h : Option Held). record { shelf = told; sink = h }) same ∙ sym (no_items (record { shelf = told; sink = sink }))))
+
+    pub refused_did : (Wants e names names' s s' ⊎ (IsNext r names from (stopped e names') × (s' ≡ s))) → (e.kind ≡ NoMemory → (flow ≡ End Memory) × (sink' ≡ sink)) → (IsNext r names from (stopped e names') → Did m flow before after k (record { shelf = told; sink = sink }) (record { shelf = told; sink = sink' })) → Did m flow before after k (record { shelf = told; sink = sink }) (record { shelf = told; sink = sink' })
+    refused_did (inl w) wanted rest = no_memory_did (wanted w.kind).0 (wanted w.kind).1
+    refused_did (inr h) wanted rest = rest h.0

@@ -11,7 +11,7 @@ ghost use Rattle.ath_eval.specs.Outcomes.{refusal};
 ghost use Rattle.ath_print.specs.Stands.{event_of, IsEventIn};
 ghost use Rattle.ath_terms.specs.Trees.{Trees};
 ghost use Rattle.ath_session.specs.declared.desk.Flow.TheVariants.{On, End};
-ghost use Rattle.ath_session.specs.declared.status.Status.TheVariants.{SourceFault as SourceFailed, SinkFault as SinkFailed};
+ghost use Rattle.ath_session.specs.declared.status.Status.TheVariants.{SourceFault as SourceFailed, SinkFault as SinkFailed, Usage as Unused};
 ghost use Rattle.ath_session.specs.Directives.{effect};
 ghost use Rattle.ath_session.specs.Ends.{Outside};
 ghost use Rattle.ath_session.specs.Run.{Move, Moves, goes, said, tell_all, asking, next_file, following, lexical_kind, fault_kind};
@@ -69,6 +69,7 @@ fn tell<K: Sink>(alloc: Global, desk: &mut Desk, event: &Event, sink: &mut K) ->
     ensures sink_later { K.faults sink.old ≤ K.faults sink.new }
     ensures sink_cause { result ≡ End SinkFailed → Rose (K.faults sink.old) (K.faults sink.new) }
     ensures no_source { result ≡ End SourceFailed → ⊥ }
+    ensures no_usage { result ≡ End Unused → ⊥ }
 {
     let world = desk.session.world();
     let Ok(bytes) = line(alloc, event, &world.names, desk.files.as_slice(), &world.store) else {
@@ -89,6 +90,7 @@ fn tell_all<K: Sink>(alloc: Global, desk: &mut Desk, events: &[Event], sink: &mu
     ensures sink_later { K.faults sink.old ≤ K.faults sink.new }
     ensures sink_cause { result ≡ End SinkFailed → Rose (K.faults sink.old) (K.faults sink.new) }
     ensures no_source { result ≡ End SourceFailed → ⊥ }
+    ensures no_usage { result ≡ End Unused → ⊥ }
 {
     for event in events {
         if let Flow::End(status) = tell(alloc, desk, event, sink) {
@@ -111,6 +113,7 @@ fn tell_fault<K: Sink>(
     ensures sink_later { K.faults sink.old ≤ K.faults sink.new }
     ensures sink_cause { result ≡ End SinkFailed → Rose (K.faults sink.old) (K.faults sink.new) }
     ensures no_source { result ≡ End SourceFailed → ⊥ }
+    ensures no_usage { result ≡ End Unused → ⊥ }
 {
     let event = Event::Error(at, Fault::plain(alloc, kind));
     tell(alloc, desk, &event, sink)
@@ -131,6 +134,7 @@ fn ask<S: Shelf, K: Sink>(
     ensures source_cause { result ≡ End SourceFailed → Rose (S.faults shelf.old) (S.faults shelf.new) }
     ensures sink_later { K.faults sink.old ≤ K.faults sink.new }
     ensures sink_cause { result ≡ End SinkFailed → Rose (K.faults sink.old) (K.faults sink.new) }
+    ensures no_usage { result ≡ End Unused → ⊥ }
 {
     let text = match shelf.fetch(alloc, name, MOST_ASKED) {
         Ok(text) => text,
@@ -200,6 +204,7 @@ fn next_file<S: Shelf, K: Sink>(
     ensures source_cause { result ≡ End SourceFailed → Rose (S.faults shelf.old) (S.faults shelf.new) }
     ensures sink_later { K.faults sink.old ≤ K.faults sink.new }
     ensures sink_cause { result ≡ End SinkFailed → Rose (K.faults sink.old) (K.faults sink.new) }
+    ensures no_usage { result ≡ End Unused → ⊥ }
 {
     if desk.next >= desk.named.len() {
         let status = if desk.errors { Status::Errors } else { Status::Clean };
@@ -233,6 +238,7 @@ fn run_directive<S: Shelf, K: Sink>(
     ensures source_cause { result ≡ End SourceFailed → Rose (S.faults shelf.old) (S.faults shelf.new) }
     ensures sink_later { K.faults sink.old ≤ K.faults sink.new }
     ensures sink_cause { result ≡ End SinkFailed → Rose (K.faults sink.old) (K.faults sink.new) }
+    ensures no_usage { result ≡ End Unused → ⊥ }
 {
     let Ok(reply) = desk.session.directive(alloc, directive) else {
         return Flow::End(Status::Memory);
@@ -265,6 +271,7 @@ fn refuse_text<K: Sink>(
     ensures sink_later { K.faults sink.old ≤ K.faults sink.new }
     ensures sink_cause { result ≡ End SinkFailed → Rose (K.faults sink.old) (K.faults sink.new) }
     ensures no_source { result ≡ End SourceFailed → ⊥ }
+    ensures no_usage { result ≡ End Unused → ⊥ }
 {
     if error.kind == SyntaxKind::Memory {
         return Flow::End(Status::Memory);
@@ -291,6 +298,7 @@ fn read_on<S: Shelf, K: Sink>(
     ensures source_cause { result ≡ End SourceFailed → Rose (S.faults shelf.old) (S.faults shelf.new) }
     ensures sink_later { K.faults sink.old ≤ K.faults sink.new }
     ensures sink_cause { result ≡ End SinkFailed → Rose (K.faults sink.old) (K.faults sink.new) }
+    ensures no_usage { result ≡ End Unused → ⊥ }
 {
     let mut reader = reader;
     match desk.session.read(alloc, &mut reader) {
@@ -323,6 +331,7 @@ pub(crate) fn advance<S: Shelf, K: Sink>(
     ensures source_cause { result ≡ End SourceFailed → Rose (S.faults shelf.old) (S.faults shelf.new) }
     ensures sink_later { K.faults sink.old ≤ K.faults sink.new }
     ensures sink_cause { result ≡ End SinkFailed → Rose (K.faults sink.old) (K.faults sink.new) }
+    ensures no_usage { result ≡ End Unused → ⊥ }
 {
     match desk.open.pop() {
         None => next_file(alloc, desk, shelf, sink),

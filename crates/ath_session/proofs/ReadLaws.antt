@@ -1,9 +1,7 @@
 -- What a text that is read on does.
-use Rattle.std.proofs.Common.{◌≡◌, ◌⊎◌, inl, inr, ℕ, suc, ◌+◌, ◌<◌, ◌≤◌, ◌-◌, Bool, true, false, List, [], ◌∷◌, ◌++◌, length, map, reverse, Option, Some, None, Result, Ok, Err, refl, sym, ◌∙◌, ap, subst, arith, if◌then◌else◌}
-use Rattle.std.specs.List.{All}
+use Rattle.std.proofs.Common.{◌≡◌, ◌⊎◌, inl, inr, ℕ, ◌+◌, ◌<◌, ◌≤◌, ◌-◌, Bool, false, List, [], ◌∷◌, ◌++◌, length, reverse, Option, Result, Ok, Err, refl, sym, ◌∙◌, ap, subst, arith, if◌then◌else◌}
 use Rattle.std.specs.Result.{is_ok, is_err}
 use Rattle.std.proofs.lemmas.List.{length-reverse, length-append, reverse-append}
-use Rattle.std.proofs.lemmas.List.Elements.{All-cons, All-tail, All-same, All-head}
 use Rattle.std.proofs.Math.Bool.{or-false}
 use Rattle.ath_io.specs.Shelf.{Texts}
 use Rattle.ath_io.specs.Sink.{Held}
@@ -21,16 +19,15 @@ use Rattle.ath_reader.specs.Next.{Next, whole, ended, stopped, Spelled, IsNext, 
 use Rattle.ath_grammar.specs.Tokens.{Placed}
 use Rattle.ath_print.specs.Events.{refused}
 use Rattle.ath_eval.specs.Outcomes.{refusal}
-use Rattle.ath_session.specs.declared.status.Status.{Status}
 use Rattle.ath_session.specs.declared.status.Status.TheVariants.{Memory}
 use Rattle.ath_session.specs.declared.desk.Flow.{Flow}
 use Rattle.ath_session.specs.declared.desk.Flow.TheVariants.{On, End}
 use Rattle.ath_session.specs.State.{State, with_names}
 use Rattle.ath_session.specs.Directives.{effect}
 use Rattle.ath_session.specs.Run.{Configuration, Move, goes, items_of, said, following, fault_kind, place_of, turned, Moves}
-use Rattle.ath_session.specs.Ends.{Outside, after_items}
-use Rattle.ath_session.specs.Steps.{Did, IsGoing, AreGoing}
-use Rattle.ath_session.proofs.DeskLaws.{no_items, nothing_done}
+use Rattle.ath_session.specs.Ends.{Outside}
+use Rattle.ath_session.specs.Steps.{Did}
+use Rattle.ath_session.proofs.DeskLaws.{no_items}
 
 -- a directive that is read ends behind its beginning, in the text
 abbrev pub Advances : Type 0

@@ -1,10 +1,9 @@
 -- How much of a run is left falls at each step, and texts that are open are going.
-use Rattle.std.proofs.Common.{◌≡◌, ◌⊎◌, inl, inr, ℕ, zero, suc, ◌+◌, ◌-◌, ◌*◌, ◌^◌, ◌<◌, ◌≤◌, List, [], ◌∷◌, length, reverse, refl, sym, ◌∙◌, ap, subst, arith}
-use Rattle.std.specs.List.{All}
+use Rattle.std.proofs.Common.{◌≡◌, ◌⊎◌, inl, inr, ℕ, suc, ◌+◌, ◌-◌, ◌*◌, ◌^◌, ◌<◌, ◌≤◌, List, [], ◌∷◌, length, reverse, refl, sym, ◌∙◌, ap, subst, arith}
 use Rattle.std.proofs.lemmas.List.{length-reverse}
-use Rattle.std.proofs.lemmas.List.Elements.{All-cons, All-tail, All-same, All-head}
+use Rattle.std.proofs.lemmas.List.Elements.{All-cons, All-same}
 use Rattle.std.proofs.Math.Nat.{pow-succ', one-le-pow, mul-le-mul_right, suc-mul}
-use Rattle.ath_reader.specs.Reading.{Reading, Progress, reached}
+use Rattle.ath_reader.specs.Reading.{Reading, reached}
 use Rattle.ath_session.specs.Run.{Configuration, reading_of, most_bytes}
 use Rattle.ath_session.specs.Steps.{IsGoing, AreGoing, Opens, whole_text, bytes_left, open_weight, weight}
 

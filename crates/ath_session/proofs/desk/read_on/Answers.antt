@@ -1,4 +1,4 @@
-use Rattle.std.proofs.Common.{◌≡◌, ◌∷◌, [], ◌++◌, ◌-◌, ◌≤◌, List, Option, Some, None, Ok, length, reverse, arith, refl, sym, ◌∙◌, ap, subst}
+use Rattle.std.proofs.Common.{◌∷◌, ◌-◌, ◌≤◌, List, Ok, length, reverse, refl, sym, ◌∙◌, ap, subst}
 use Rattle.std.proofs.lemmas.List.{length-reverse}
 use Rattle.std.proofs.lemmas.List.Elements.{All-head, All-tail, All-cons, All-same}
 use Rattle.ath_reader.specs.Reading.{Reading, reached}

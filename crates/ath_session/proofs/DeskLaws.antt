@@ -74,12 +74,14 @@ put_before xs (halts items h) = halts (xs ++ items) h
 -- of a move that goes on, the first items are done, and then this much of the rest
 module _ (xs ys : List Item) (d : Configuration) (before middle after : Bool) (c : Configuration) (o o' o'' : Outside) (said_errors : middle ≡ (before || has_error xs)) (done : o' ≡ after_items o xs) where
   on : Did (goes ys d) On middle after c o' o'' → Did (goes (xs ++ ys) d) On before after c o o''
-  on (items, (same, errors, all)) =
-      (xs ++ items, (
-        ap (put_before xs) same,
-        errors ∙ ap (λ (b : Bool). b || has_error items) said_errors ∙ errors_more before xs items,
-        all ∙ ap (λ (w : Outside). after_items w items) done ∙ items_more o xs items,
-      ))
+  on (items, (same, errors, all)) = (
+    xs ++ items,
+    (
+      ap (put_before xs) same,
+      errors ∙ ap (λ (b : Bool). b || has_error items) said_errors ∙ errors_more before xs items,
+      all ∙ ap (λ (w : Outside). after_items w items) done ∙ items_more o xs items,
+    ),
+  )
 
   split : (front more : List Item) → ys ≡ front ++ more → xs ++ ys ≡ (xs ++ front) ++ more
   split front more e = ap (λ (zs : List Item). xs ++ zs) e ∙ sym (append_assoc xs front more)
@@ -127,9 +129,13 @@ module _ (xs : List Item) (c : Configuration) (h : Halt) (before after : Bool) (
 -- one line is put, or a front of it
 module _ (c : Configuration) (e : events.Event) (told : Option Texts) (sink sink' : Option Held) (bytes : List ℕ) (is : bytes ≡ line_of c.state.names c.files e) where
   pub line_failed : (before : Bool) (count : ℕ) → sink' ≡ with_put sink (take count bytes) → Ended (goes (said c e ∷ []) c) SinkFault before (record { shelf = told; sink = sink }) (record { shelf = told; sink = sink' })
-  line_failed before count put =
-      ([], [], record { event = e; line = line_of c.state.names c.files e }, count,
-       (refl, ap (λ (k : Option Held). record { shelf = told; sink = k }) (put ∙ ap (λ (bs : List ℕ). with_put sink (take count bs)) is) ∙ ap (λ (t : Option Texts). record { shelf = t; sink = with_put sink (take count (line_of c.state.names c.files e)) }) (sym (asked_none told))))
+  line_failed before count put = (
+    [],
+    [],
+    record { event = e; line = line_of c.state.names c.files e },
+    count,
+    (refl, ap (λ (k : Option Held). record { shelf = told; sink = k }) (put ∙ ap (λ (bs : List ℕ). with_put sink (take count bs)) is) ∙ ap (λ (t : Option Texts). record { shelf = t; sink = with_put sink (take count (line_of c.state.names c.files e)) }) (sym (asked_none told))),
+  )
 
 pub put_failed : {E : Type 0} (before after : Option Held) (bytes : List ℕ) (r : Result (Unit {0}) E) → Puts before bytes r after → is_err r ≡ true → (count : ℕ) × (after ≡ with_put before (take count bytes))
 put_failed before after bytes (Ok u) h e = absurd (cc)

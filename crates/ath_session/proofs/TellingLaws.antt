@@ -43,7 +43,7 @@ module _ (old mid new : Desk) (es : List Event) (item : Told) (h h' h'' : Option
   one told flow other did =
       behind (tell_all (configuration_of old) es) (said (configuration_of old) (event_of old.session.world.store item) ∷ []) (configuration_of old) old.errors mid.errors new.errors (configuration_of new) (record { shelf = told; sink = h }) (record { shelf = told; sink = h' }) (record { shelf = told; sink = h'' }) so.errors (all_done told) flow other
       (subst (λ (x : Event). Did (goes (said (configuration_of old) x ∷ []) (configuration_of old)) flow mid.errors new.errors (configuration_of new) (record { shelf = told; sink = h' }) (record { shelf = told; sink = h'' })) same_event
-       (subst (λ (k : Configuration). Did (goes (said k (event_of mid.session.world.store item) ∷ []) k) flow mid.errors new.errors (configuration_of new) (record { shelf = told; sink = h' }) (record { shelf = told; sink = h'' })) (ap configuration_of so.kept) did))
+      (subst (λ (k : Configuration). Did (goes (said k (event_of mid.session.world.store item) ∷ []) k) flow mid.errors new.errors (configuration_of new) (record { shelf = told; sink = h' }) (record { shelf = told; sink = h'' })) (ap configuration_of so.kept) did))
 
   told_more : tell_all (configuration_of old) (es ++ event_of old.session.world.store item ∷ []) ≡ tell_all (configuration_of old) es ++ said (configuration_of old) (event_of old.session.world.store item) ∷ []
   told_more = map-append (said (configuration_of old)) es (event_of old.session.world.store item ∷ [])
@@ -73,12 +73,14 @@ module _ (old mid new : Desk) (es : List Event) (item : Told) (h h' h'' : Option
 
 -- all of them are told
 pub told_all : (old new : Desk) (es : List Event) (h h' : Option Held) → ToldSoFar old new es h h' → (told : Option Texts) → Did (goes (tell_all (configuration_of old) es) (configuration_of old)) On old.errors new.errors (configuration_of new) (record { shelf = told; sink = h }) (record { shelf = told; sink = h' })
-told_all old new es h h' so told =
-    (tell_all (configuration_of old) es, (
-      ap (λ (d : Desk). goes (tell_all (configuration_of old) es) (configuration_of d)) (sym so.kept),
-      so.errors,
-      rw (no_names (configuration_of old) es) (rw (asked_none told) (ap (λ (k : Option Held). record { shelf = told; sink = k }) so.lines)),
-    ))
+told_all old new es h h' so told = (
+  tell_all (configuration_of old) es,
+  (
+    ap (λ (d : Desk). goes (tell_all (configuration_of old) es) (configuration_of d)) (sym so.kept),
+    so.errors,
+    rw (no_names (configuration_of old) es) (rw (asked_none told) (ap (λ (k : Option Held). record { shelf = told; sink = k }) so.lines)),
+  ),
+)
 
 -- the events before one, that one, and those behind it
 module _ (s : Trees) (es : List Told) (i : ℕ) (e : Told) (there : i < length es) where

@@ -15,7 +15,7 @@ returns-clause-did g c = λ t told.
     let file : c.len-2.result ≡ length (configuration_of c.args.desk.now).files = begun ∙ sym (length-map c.args.desk.now.files.items string_bytes) in
     subst (λ (m : Move). Did m c.ask.result c.args.desk.now.errors c.ask.new.desk.errors (configuration_of c.ask.new.desk) (record { shelf = g.S.Shelf.told c.args.shelf.now; sink = g.K.Sink.told c.args.sink.now }) (record { shelf = g.S.Shelf.told c.ask.new.shelf; sink = g.K.Sink.told c.ask.new.sink }))
     (sym (next_is t.texts (configuration_of c.args.desk.now) c.len-2.result (string_bytes c.index.result.now) _ waits file
-      ∙ ap (λ (bytes : List ℕ). asking t.texts (configuration_of (record c.args.desk.now { next = c.args.desk.now.next + 1 })) (record { file = c.len-2.result; line = 1; col = 1 }) bytes) name))
+    ∙ ap (λ (bytes : List ℕ). asking t.texts (configuration_of (record c.args.desk.now { next = c.args.desk.now.next + 1 })) (record { file = c.len-2.result; line = 1; col = 1 }) bytes) name))
     (c.ask.ensures.did t told)
 
 pub returns-clause-falls : goal.returns-clause-falls

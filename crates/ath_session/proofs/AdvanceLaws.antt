@@ -1,5 +1,5 @@
 -- A step of a run, by whether a text is open.
-use Rattle.std.proofs.Common.{◌≡◌, ℕ, ◌≤◌, length, arith, List, [], ◌∷◌, ◌++◌, reverse, Option, Some, None, refl, sym, ◌∙◌, ap, subst}
+use Rattle.std.proofs.Common.{◌≡◌, ℕ, ◌≤◌, length, arith, List, [], ◌∷◌, ◌++◌, reverse, refl, sym, ◌∙◌, ap, subst}
 use Rattle.ath_reader.specs.Reading.{Reading}
 use Rattle.ath_session.specs.Run.{Configuration, Move, next_file, Turns, Moves}
 use Rattle.ath_session.proofs.ReadLaws.{innermost}

@@ -1,5 +1,5 @@
 -- What is done of a move, after some items of it and then the rest.
-use Rattle.std.proofs.Common.{◌≡◌, ◌≢◌, ℕ, ◌<◌, ◌≤◌, ◌⊎◌, Bool, true, false, ◌||◌, List, [], ◌∷◌, ◌++◌, length, map, take, drop, get_or, Option, Some, None, Result, Ok, Err, refl, sym, ◌∙◌, ap, subst, arith, append_assoc, nat_lt, if◌then◌else◌}
+use Rattle.std.proofs.Common.{◌≡◌, ℕ, Bool, true, false, ◌||◌, List, [], ◌∷◌, ◌++◌, length, take, Option, Some, None, Result, Ok, Err, refl, sym, ◌∙◌, ap, subst, arith, append_assoc, nat_lt, if◌then◌else◌}
 use Rattle.std.proofs.lemmas.List.{append-nil}
 use Rattle.std.proofs.lemmas.List.Folds.{list_any-append}
 use Rattle.std.proofs.lemmas.Bool.Decides.{nat_tests}
@@ -25,7 +25,7 @@ use Rattle.ath_session.specs.declared.status.Status.{Status}
 use Rattle.ath_session.specs.declared.status.Status.TheVariants.{Clean, Errors, Usage, Fuel, SourceFault, SinkFault, Memory}
 use Rattle.ath_session.specs.declared.desk.Flow.{Flow}
 use Rattle.ath_session.specs.declared.desk.Flow.TheVariants.{On, End}
-use Rattle.ath_session.specs.Run.{Said, Item, asks, tells, Configuration, Move, goes, halts, items_of, Halt, all_run, out_of_fuel, no_text, said, tell_all, reading_of, most_asked, most_bytes, fetched, asking}
+use Rattle.ath_session.specs.Run.{Item, asks, tells, Configuration, Move, goes, halts, items_of, Halt, all_run, out_of_fuel, said, reading_of, most_asked, most_bytes, fetched, asking}
 use Rattle.ath_session.specs.Report.{names_in, lines_in, is_error, has_error}
 use Rattle.ath_session.specs.Ends.{Outside, after_items, after_part}
 use Rattle.ath_session.specs.Steps.{Ended, Did, IsOpened}
@@ -71,27 +71,17 @@ abbrev pub put_before : List Item → Move → Move
 put_before xs (goes items c) = goes (xs ++ items) c
 put_before xs (halts items h) = halts (xs ++ items) h
 
-before_items : (xs : List Item) (m : Move) → items_of (put_before xs m) ≡ xs ++ items_of m
-before_items xs (goes items c) = refl
-before_items xs (halts items h) = refl
-
-abbrev moves_on : Move → Bool
-moves_on (goes items c) = true
-moves_on (halts items h) = false
-
-halt_of : Move → Halt
-halt_of (goes items c) = all_run
-halt_of (halts items h) = h
-
 -- of a move that goes on, the first items are done, and then this much of the rest
 module _ (xs ys : List Item) (d : Configuration) (before middle after : Bool) (c : Configuration) (o o' o'' : Outside) (said_errors : middle ≡ (before || has_error xs)) (done : o' ≡ after_items o xs) where
   on : Did (goes ys d) On middle after c o' o'' → Did (goes (xs ++ ys) d) On before after c o o''
-  on (items, (same, errors, all)) =
-      (xs ++ items, (
-        ap (put_before xs) same,
-        errors ∙ ap (λ (b : Bool). b || has_error items) said_errors ∙ errors_more before xs items,
-        all ∙ ap (λ (w : Outside). after_items w items) done ∙ items_more o xs items,
-      ))
+  on (items, (same, errors, all)) = (
+    xs ++ items,
+    (
+      ap (put_before xs) same,
+      errors ∙ ap (λ (b : Bool). b || has_error items) said_errors ∙ errors_more before xs items,
+      all ∙ ap (λ (w : Outside). after_items w items) done ∙ items_more o xs items,
+    ),
+  )
 
   split : (front more : List Item) → ys ≡ front ++ more → xs ++ ys ≡ (xs ++ front) ++ more
   split front more e = ap (λ (zs : List Item). xs ++ zs) e ∙ sym (append_assoc xs front more)
@@ -136,16 +126,16 @@ module _ (xs : List Item) (c : Configuration) (h : Halt) (before after : Bool) (
   pub out_after : Did (goes xs c) On before after e o o' → Ended (halts xs out_of_fuel) Fuel before o o'
   out_after (items, (same, errors, all)) = (xs, (refl, all ∙ ap (λ (m : Move). after_items o (items_of m)) (sym same)))
 
--- nothing is done
-pub nothing_done : (m : Move) (before : Bool) (o : Outside) → Ended m Memory before o o
-nothing_done m before o = ([], items_of m, (refl, sym (no_items o)))
-
 -- one line is put, or a front of it
 module _ (c : Configuration) (e : events.Event) (told : Option Texts) (sink sink' : Option Held) (bytes : List ℕ) (is : bytes ≡ line_of c.state.names c.files e) where
   pub line_failed : (before : Bool) (count : ℕ) → sink' ≡ with_put sink (take count bytes) → Ended (goes (said c e ∷ []) c) SinkFault before (record { shelf = told; sink = sink }) (record { shelf = told; sink = sink' })
-  line_failed before count put =
-      ([], [], record { event = e; line = line_of c.state.names c.files e }, count,
-       (refl, ap (λ (k : Option Held). record { shelf = told; sink = k }) (put ∙ ap (λ (bs : List ℕ). with_put sink (take count bs)) is) ∙ ap (λ (t : Option Texts). record { shelf = t; sink = with_put sink (take count (line_of c.state.names c.files e)) }) (sym (asked_none told))))
+  line_failed before count put = (
+    [],
+    [],
+    record { event = e; line = line_of c.state.names c.files e },
+    count,
+    (refl, ap (λ (k : Option Held). record { shelf = told; sink = k }) (put ∙ ap (λ (bs : List ℕ). with_put sink (take count bs)) is) ∙ ap (λ (t : Option Texts). record { shelf = t; sink = with_put sink (take count (line_of c.state.names c.files e)) }) (sym (asked_none told))),
+  )
 
 pub put_failed : {E : Type 0} (before after : Option Held) (bytes : List ℕ) (r : Result (Unit {0}) E) → Puts before bytes r after → is_err r ≡ true → (count : ℕ) × (after ≡ with_put before (take count bytes))
 put_failed before after bytes (Ok u) h e = absurd (cc)

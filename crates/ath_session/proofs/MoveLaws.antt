@@ -1,5 +1,5 @@
 -- Which move a file of the command line and a directive make.
-use Rattle.std.proofs.Common.{◌≡◌, ℕ, suc, ◌+◌, ◌<◌, ◌≤◌, ◌-◌, Bool, true, false, List, [], ◌∷◌, ◌++◌, length, map, drop, get_or, reverse, refl, sym, ◌∙◌, ap, subst, arith, add-one, drop-cons, nat_lt}
+use Rattle.std.proofs.Common.{◌≡◌, ℕ, suc, ◌+◌, ◌<◌, ◌≤◌, ◌-◌, true, false, List, [], ◌∷◌, length, map, drop, get_or, refl, sym, ◌∙◌, ap, arith, add-one, drop-cons, nat_lt}
 use Rattle.std.proofs.lemmas.List.{drop-map}
 use Rattle.std.proofs.lemmas.Bool.Decides.{nat_tests}
 use Rattle.ath_syntax.specs.declared.place.Pos.{Pos}
@@ -7,7 +7,7 @@ use Rattle.ath_print.specs.Events.{Event, refused}
 use Rattle.ath_print.specs.declared.fault.FaultKind.TheVariants.{TooManyLoads}
 use Rattle.ath_eval.specs.Outcomes.{refusal}
 use Rattle.ath_session.specs.Directives.{Next, goes_on, loads, ends, Effect}
-use Rattle.ath_session.specs.Run.{Configuration, Move, goes, halts, out_of_fuel, said, tell_all, asking, next_file, following, most_loads}
+use Rattle.ath_session.specs.Run.{Configuration, goes, halts, out_of_fuel, said, tell_all, asking, next_file, following, most_loads}
 
 pub next_waiting : {X : Type 0} (f : X → List ℕ) (xs : List X) (n : ℕ) (x : X) → n < length xs → get_or xs n x ≡ x → drop n (map f xs) ≡ f x ∷ drop (n + 1) (map f xs)
 next_waiting f xs n x h is =

@@ -1,9 +1,7 @@
 -- What a text that is read on does.
-use Rattle.std.proofs.Common.{◌≡◌, ◌⊎◌, inl, inr, ℕ, suc, ◌+◌, ◌<◌, ◌≤◌, ◌-◌, Bool, true, false, List, [], ◌∷◌, ◌++◌, length, map, reverse, Option, Some, None, Result, Ok, Err, refl, sym, ◌∙◌, ap, subst, arith, if◌then◌else◌}
-use Rattle.std.specs.List.{All}
+use Rattle.std.proofs.Common.{◌≡◌, ◌⊎◌, inl, inr, ℕ, ◌+◌, ◌<◌, ◌≤◌, ◌-◌, Bool, false, List, [], ◌∷◌, ◌++◌, length, reverse, Option, Result, Ok, Err, refl, sym, ◌∙◌, ap, subst, arith, if◌then◌else◌}
 use Rattle.std.specs.Result.{is_ok, is_err}
 use Rattle.std.proofs.lemmas.List.{length-reverse, length-append, reverse-append}
-use Rattle.std.proofs.lemmas.List.Elements.{All-cons, All-tail, All-same, All-head}
 use Rattle.std.proofs.Math.Bool.{or-false}
 use Rattle.ath_io.specs.Shelf.{Texts}
 use Rattle.ath_io.specs.Sink.{Held}
@@ -17,24 +15,19 @@ use Rattle.ath_reader.specs.declared.reader.SyntaxKind.{SyntaxKind}
 use Rattle.ath_reader.specs.declared.reader.SyntaxKind.TheVariants.{Memory as NoMemory}
 use Rattle.ath_reader.specs.Ahead.{Ahead, a_token, the_end, a_fault}
 use Rattle.ath_reader.specs.Reading.{Reading, Progress, reached, Fails, Wants, Answers}
-use Rattle.ath_reader.specs.Next.{Next, whole, ended, stopped, Spelled, IsNext, OneNext, byte_reached}
+use Rattle.ath_reader.specs.Next.{Next, whole, ended, stopped, IsNext, OneNext, byte_reached}
 use Rattle.ath_grammar.specs.Tokens.{Placed}
 use Rattle.ath_print.specs.Events.{refused}
 use Rattle.ath_eval.specs.Outcomes.{refusal}
-use Rattle.ath_session.specs.declared.status.Status.{Status}
 use Rattle.ath_session.specs.declared.status.Status.TheVariants.{Memory}
 use Rattle.ath_session.specs.declared.desk.Flow.{Flow}
 use Rattle.ath_session.specs.declared.desk.Flow.TheVariants.{On, End}
 use Rattle.ath_session.specs.State.{State, with_names}
 use Rattle.ath_session.specs.Directives.{effect}
 use Rattle.ath_session.specs.Run.{Configuration, Move, goes, items_of, said, following, fault_kind, place_of, turned, Moves}
-use Rattle.ath_session.specs.Ends.{Outside, after_items}
-use Rattle.ath_session.specs.Steps.{Did, IsGoing, AreGoing}
-use Rattle.ath_session.proofs.DeskLaws.{no_items, nothing_done}
-
--- a directive that is read ends behind its beginning, in the text
-abbrev pub Advances : Type 0
-Advances = (r : Reading) (names : List (List ℕ)) (from : ℕ) (d : DirectiveTree) (to : ℕ) (names' : List (List ℕ)) → Spelled r names from d to names' → (from < to) × (to ≤ length r.text)
+use Rattle.ath_session.specs.Ends.{Outside}
+use Rattle.ath_session.specs.Steps.{Did}
+use Rattle.ath_session.proofs.DeskLaws.{no_items}
 
 -- want of memory is no cause of a refusal
 no_fault : (r : Reading) (ts : List Placed) (next : Ahead) (pos : Pos) → Fails r ts next NoMemory pos → ⊥
@@ -80,9 +73,9 @@ module _ (texts : List (List ℕ × List ℕ)) (c : Configuration) (r : Reading)
     whole_did s d t to names' stands h w is outer depth flow before after k o o' did =
         subst (λ (x : Move). Did x flow before after k o o')
         (ap (λ (v : Configuration). following texts (record v { state = (effect v.state t).state }) outer d.pos (effect v.state t).events (effect v.state t).next) is
-         ∙ ap (λ (n : ℕ). following texts (record c { stack = record r { progress = reached to } ∷ c.stack; state = (effect (with_names names' c.state) t).state }) n d.pos (effect (with_names names' c.state) t).events (effect (with_names names' c.state) t).next) depth
-         ∙ ap (λ (p : Pos). following texts (record c { stack = record r { progress = reached to } ∷ c.stack; state = (effect (with_names names' c.state) t).state }) (length c.stack) p (effect (with_names names' c.state) t).events (effect (with_names names' c.state) t).next) (sym (place_is s d t stands))
-         ∙ sym (move_is (whole t to names') h))
+        ∙ ap (λ (n : ℕ). following texts (record c { stack = record r { progress = reached to } ∷ c.stack; state = (effect (with_names names' c.state) t).state }) n d.pos (effect (with_names names' c.state) t).events (effect (with_names names' c.state) t).next) depth
+        ∙ ap (λ (p : Pos). following texts (record c { stack = record r { progress = reached to } ∷ c.stack; state = (effect (with_names names' c.state) t).state }) (length c.stack) p (effect (with_names names' c.state) t).events (effect (with_names names' c.state) t).next) (sym (place_is s d t stands))
+        ∙ sym (move_is (whole t to names') h))
         did
 
 pub reads : (r : Reading) (from : ℕ) (names : List (List ℕ)) (s : Nodes) (result : Result (Option Directive) SyntaxError) (new : Reading) (names' : List (List ℕ)) (s' : Nodes) → r.progress ≡ reached from → Answers r r.progress names s result new names' s' → Answers r (reached from) names s result new names' s'

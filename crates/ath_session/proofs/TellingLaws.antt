@@ -1,9 +1,9 @@
 -- Events that are told one after the other.
-use Rattle.std.proofs.Common.{◌≡◌, ◌≢◌, ℕ, suc, ◌<◌, ◌≤◌, ◌+◌, Bool, true, false, ◌||◌, List, [], ◌∷◌, ◌++◌, length, map, take, drop, get_or, Option, Some, None, refl, sym, ◌∙◌, ap, subst, arith, append_assoc, add-one, drop-cons}
-use Rattle.std.proofs.lemmas.List.{append-nil, map-append, take_more, take-append-drop}
+use Rattle.std.proofs.Common.{◌≡◌, ℕ, suc, ◌<◌, ◌≤◌, ◌+◌, ◌||◌, List, [], ◌∷◌, ◌++◌, length, map, take, drop, get_or, Option, None, refl, sym, ◌∙◌, ap, subst, arith, append_assoc, drop-cons}
+use Rattle.std.proofs.lemmas.List.{map-append, take_more, take-append-drop}
 use Rattle.std.proofs.Math.Bool.{or-false}
 use Rattle.std.proofs.Math.Seq.{take-length}
-use Rattle.ath_io.specs.Shelf.{Texts, with_asked}
+use Rattle.ath_io.specs.Shelf.{Texts}
 use Rattle.ath_io.specs.Sink.{Held, with_puts}
 use Rattle.ath_terms.specs.Trees.{Trees}
 use Rattle.ath_print.specs.Events.{Event}
@@ -14,7 +14,7 @@ use Rattle.ath_session.specs.declared.status.Status.TheVariants.{SourceFault}
 use Rattle.ath_session.specs.declared.desk.Desk.{Desk}
 use Rattle.ath_session.specs.declared.desk.Flow.{Flow}
 use Rattle.ath_session.specs.declared.desk.Flow.TheVariants.{On, End}
-use Rattle.ath_session.specs.Run.{Item, Configuration, Move, goes, items_of, said, tell_all}
+use Rattle.ath_session.specs.Run.{Item, Configuration, goes, items_of, said, tell_all}
 use Rattle.ath_session.specs.Report.{names_in, lines_in, has_error}
 use Rattle.ath_session.specs.Ends.{Outside, after_items}
 use Rattle.ath_session.specs.Steps.{configuration_of, Ended, Did}
@@ -30,9 +30,6 @@ pub record ToldSoFar (old now : Desk) (es : List Event) (sink sink' : Option Hel
   pub errors : now.errors ≡ (old.errors || has_error (tell_all (configuration_of old) es))
   pub lines : sink' ≡ with_puts sink (lines_in (tell_all (configuration_of old) es))
 
-pub none_told : (d : Desk) (sink : Option Held) → ToldSoFar d d [] sink sink
-none_told d sink = record { kept = refl; errors = sym (or-false d.errors); lines = refl }
-
 -- one event is told after them
 module _ (old mid new : Desk) (es : List Event) (item : Told) (h h' h'' : Option Held) (so : ToldSoFar old mid es h h') where
   same_event : event_of mid.session.world.store item ≡ event_of old.session.world.store item
@@ -46,7 +43,7 @@ module _ (old mid new : Desk) (es : List Event) (item : Told) (h h' h'' : Option
   one told flow other did =
       behind (tell_all (configuration_of old) es) (said (configuration_of old) (event_of old.session.world.store item) ∷ []) (configuration_of old) old.errors mid.errors new.errors (configuration_of new) (record { shelf = told; sink = h }) (record { shelf = told; sink = h' }) (record { shelf = told; sink = h'' }) so.errors (all_done told) flow other
       (subst (λ (x : Event). Did (goes (said (configuration_of old) x ∷ []) (configuration_of old)) flow mid.errors new.errors (configuration_of new) (record { shelf = told; sink = h' }) (record { shelf = told; sink = h'' })) same_event
-       (subst (λ (k : Configuration). Did (goes (said k (event_of mid.session.world.store item) ∷ []) k) flow mid.errors new.errors (configuration_of new) (record { shelf = told; sink = h' }) (record { shelf = told; sink = h'' })) (ap configuration_of so.kept) did))
+      (subst (λ (k : Configuration). Did (goes (said k (event_of mid.session.world.store item) ∷ []) k) flow mid.errors new.errors (configuration_of new) (record { shelf = told; sink = h' }) (record { shelf = told; sink = h'' })) (ap configuration_of so.kept) did))
 
   told_more : tell_all (configuration_of old) (es ++ event_of old.session.world.store item ∷ []) ≡ tell_all (configuration_of old) es ++ said (configuration_of old) (event_of old.session.world.store item) ∷ []
   told_more = map-append (said (configuration_of old)) es (event_of old.session.world.store item ∷ [])
@@ -76,12 +73,14 @@ module _ (old mid new : Desk) (es : List Event) (item : Told) (h h' h'' : Option
 
 -- all of them are told
 pub told_all : (old new : Desk) (es : List Event) (h h' : Option Held) → ToldSoFar old new es h h' → (told : Option Texts) → Did (goes (tell_all (configuration_of old) es) (configuration_of old)) On old.errors new.errors (configuration_of new) (record { shelf = told; sink = h }) (record { shelf = told; sink = h' })
-told_all old new es h h' so told =
-    (tell_all (configuration_of old) es, (
-      ap (λ (d : Desk). goes (tell_all (configuration_of old) es) (configuration_of d)) (sym so.kept),
-      so.errors,
-      rw (no_names (configuration_of old) es) (rw (asked_none told) (ap (λ (k : Option Held). record { shelf = told; sink = k }) so.lines)),
-    ))
+told_all old new es h h' so told = (
+  tell_all (configuration_of old) es,
+  (
+    ap (λ (d : Desk). goes (tell_all (configuration_of old) es) (configuration_of d)) (sym so.kept),
+    so.errors,
+    rw (no_names (configuration_of old) es) (rw (asked_none told) (ap (λ (k : Option Held). record { shelf = told; sink = k }) so.lines)),
+  ),
+)
 
 -- the events before one, that one, and those behind it
 module _ (s : Trees) (es : List Told) (i : ℕ) (e : Told) (there : i < length es) where
@@ -95,10 +94,6 @@ module _ (s : Trees) (es : List Told) (i : ℕ) (e : Told) (there : i < length e
   events_split is =
       ap (map (event_of s)) (sym (take-append-drop i es) ∙ ap (λ (rest : List Told). take i es ++ rest) (drop-cons es i e there ∙ ap (λ (x : Told). x ∷ drop (suc i) es) is))
       ∙ map-append (event_of s) (take i es) (e ∷ drop (suc i) es)
-
-pub on_unless : (flow : Flow) → ((s : Status) → flow ≡ End s → ⊥) → flow ≡ On
-on_unless On h = refl
-on_unless (End s) h = absurd (h s refl)
 
 pub all_begun : (es : List Told) (i : ℕ) → i ≤ length es → length es ≤ i → take i es ≡ es
 all_begun es i h k = let e : i ≡ length es = omega arith in ap (λ (n : ℕ). take n es) e ∙ take-length es

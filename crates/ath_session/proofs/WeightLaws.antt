@@ -1,10 +1,9 @@
 -- How much of a run is left falls at each step, and texts that are open are going.
-use Rattle.std.proofs.Common.{◌≡◌, ◌⊎◌, inl, inr, ℕ, zero, suc, ◌+◌, ◌-◌, ◌*◌, ◌^◌, ◌<◌, ◌≤◌, List, [], ◌∷◌, length, reverse, refl, sym, ◌∙◌, ap, subst, arith}
-use Rattle.std.specs.List.{All}
+use Rattle.std.proofs.Common.{◌≡◌, ◌⊎◌, inl, inr, ℕ, suc, ◌+◌, ◌-◌, ◌*◌, ◌^◌, ◌<◌, ◌≤◌, List, [], ◌∷◌, length, reverse, refl, sym, ◌∙◌, ap, subst, arith}
 use Rattle.std.proofs.lemmas.List.{length-reverse}
-use Rattle.std.proofs.lemmas.List.Elements.{All-cons, All-tail, All-same, All-head}
+use Rattle.std.proofs.lemmas.List.Elements.{All-cons, All-same}
 use Rattle.std.proofs.Math.Nat.{pow-succ', one-le-pow, mul-le-mul_right, suc-mul}
-use Rattle.ath_reader.specs.Reading.{Reading, Progress, reached}
+use Rattle.ath_reader.specs.Reading.{Reading, reached}
 use Rattle.ath_session.specs.Run.{Configuration, reading_of, most_bytes}
 use Rattle.ath_session.specs.Steps.{IsGoing, AreGoing, Opens, whole_text, bytes_left, open_weight, weight}
 
@@ -71,7 +70,7 @@ module _ (c d : Configuration) (r : Reading) (from : ℕ) (at : r.progress ≡ r
     load_falls file text fits e f =
         falls_to (reading_of file text ∷ record r { progress = reached to } ∷ c.stack) e f
         (less_product (1 + (length r.text - to)) (bytes_left r r.progress) (whole_text ^ (17 - length c.stack)) ((1 + (length text - 0)) * whole_text ^ (17 - suc (length c.stack))) (open_weight c.stack) less_left
-         (below_power whole_text (17 - suc (length c.stack)) (17 - length c.stack) (1 + (length text - 0)) (omega arith) (omega arith)))
+        (below_power whole_text (17 - suc (length c.stack)) (17 - length c.stack) (1 + (length text - 0)) (omega arith) (omega arith)))
 
     opened_falls : (mid : Configuration) → mid.waiting ≡ c.waiting → mid.stack ≡ record r { progress = reached to } ∷ c.stack → d.waiting ≡ mid.waiting → ((d.stack ≡ mid.stack) ⊎ ((file : ℕ) × (text : List ℕ) × ((length text ≤ most_bytes) × (d.stack ≡ reading_of file text ∷ mid.stack)))) → weight d < weight (record c { stack = r ∷ c.stack })
     opened_falls mid e f same (inl h) = read_falls (same ∙ e) (h ∙ f)
@@ -96,13 +95,13 @@ module _ (c d : Configuration) (name : List ℕ) (names : List (List ℕ)) (wait
   file_goes stack e f h =
       subst (λ (w : ℕ). w < weight c) (sym (weight_is (record c { waiting = names }) d stack e f))
       (subst (λ (w : ℕ). length names * whole_text ^ 18 + open_weight stack < w) (sym now_left)
-       (with_none (suc (length names) * whole_text ^ 18) _ (file_counts (length names) (open_weight stack) (whole_text ^ 18) h)))
+      (with_none (suc (length names) * whole_text ^ 18) _ (file_counts (length names) (open_weight stack) (whole_text ^ 18) h)))
 
   one_text : (file : ℕ) (text : List ℕ) → length text ≤ most_bytes → open_weight (reading_of file text ∷ []) < whole_text ^ 18
   one_text file text fits = with_rest _ _ (below_power whole_text 17 18 (1 + (length text - 0)) (omega arith) refl)
     where
-    with_rest : (x y : ℕ) → x < y → x + 0 < y
-    with_rest x y h = omega arith
+      with_rest : (x y : ℕ) → x < y → x + 0 < y
+      with_rest x y h = omega arith
 
   opened_file : d.waiting ≡ names → (d.stack ≡ c.stack) ⊎ ((file : ℕ) × (text : List ℕ) × ((length text ≤ most_bytes) × (d.stack ≡ reading_of file text ∷ c.stack))) → weight d < weight c
   opened_file e (inl h) = file_goes [] e (h ∙ empty) (some_power 18)

@@ -72,7 +72,13 @@ fn tell<K: Sink>(alloc: Global, desk: &mut Desk, event: &Event, sink: &mut K) ->
     ensures no_usage { result ≡ End Unused → ⊥ }
 {
     let world = desk.session.world();
-    let Ok(bytes) = line(alloc, event, &world.names, desk.files.as_slice(), &world.store) else {
+    let Ok(bytes) = line(
+        alloc,
+        event,
+        &world.names,
+        desk.files.as_slice(),
+        &world.store,
+    ) else {
         return Flow::End(Status::Memory);
     };
     if sink.put(bytes.as_slice()).is_err() {
@@ -189,12 +195,7 @@ fn fault_kind(kind: SyntaxKind) -> FaultKind
 }
 
 /// The file of the command line that comes next, or the end.
-fn next_file<S: Shelf, K: Sink>(
-    alloc: Global,
-    desk: &mut Desk,
-    shelf: &mut S,
-    sink: &mut K,
-) -> Flow
+fn next_file<S: Shelf, K: Sink>(alloc: Global, desk: &mut Desk, shelf: &mut S, sink: &mut K) -> Flow
     requires { desk.old.open.items ≡ [] }
     ensures did { (t : Texts) → S.told shelf.old ≡ Some t → Did (next_file t.texts (configuration_of desk.old) (configuration_of desk.old).waiting) result desk.old.errors desk.new.errors (configuration_of desk.new) (record { shelf = S.told shelf.old; sink = K.told sink.old }) (record { shelf = S.told shelf.new; sink = K.told sink.new }) }
     ensures going { result ≡ On → AreGoing (configuration_of desk.new) }
@@ -207,7 +208,11 @@ fn next_file<S: Shelf, K: Sink>(
     ensures no_usage { result ≡ End Unused → ⊥ }
 {
     if desk.next >= desk.named.len() {
-        let status = if desk.errors { Status::Errors } else { Status::Clean };
+        let status = if desk.errors {
+            Status::Errors
+        } else {
+            Status::Clean
+        };
         return Flow::End(status);
     }
     let Ok(name) = String::from_str(alloc, desk.named[desk.next].as_str()) else {
@@ -259,12 +264,7 @@ fn run_directive<S: Shelf, K: Sink>(
 }
 
 /// A syntax error is told, and its text isn't open any more.
-fn refuse_text<K: Sink>(
-    alloc: Global,
-    desk: &mut Desk,
-    error: SyntaxError,
-    sink: &mut K,
-) -> Flow
+fn refuse_text<K: Sink>(alloc: Global, desk: &mut Desk, error: SyntaxError, sink: &mut K) -> Flow
     ensures kept { desk.new ≡ record desk.old { errors = desk.new.errors } }
     ensures memory { error.kind ≡ SyntaxKind.Memory → (result ≡ End Status.Memory) × (K.told sink.new ≡ K.told sink.old) }
     ensures did { (error.kind ≡ SyntaxKind.Memory → ⊥) → (told : Option Texts) → Did (goes (said (configuration_of desk.old) (refused error.pos (refusal (fault_kind error.kind) [])) ∷ []) (configuration_of desk.old)) result desk.old.errors desk.new.errors (configuration_of desk.new) (record { shelf = told; sink = K.told sink.old }) (record { shelf = told; sink = K.told sink.new }) }

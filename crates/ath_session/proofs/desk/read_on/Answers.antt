@@ -1,4 +1,4 @@
-use Rattle.std.proofs.Common.{◌≡◌, ◌∷◌, [], ◌++◌, ◌-◌, ◌≤◌, List, Option, Some, None, Ok, length, reverse, arith, refl, sym, ◌∙◌, ap, subst}
+use Rattle.std.proofs.Common.{◌∷◌, ◌-◌, ◌≤◌, List, Ok, length, reverse, refl, sym, ◌∙◌, ap, subst}
 use Rattle.std.proofs.lemmas.List.{length-reverse}
 use Rattle.std.proofs.lemmas.List.Elements.{All-head, All-tail, All-cons, All-same}
 use Rattle.ath_reader.specs.Reading.{Reading, reached}
@@ -94,8 +94,8 @@ returns-in-Err-clause-did g c = λ t m told moves.
     let state = ap (λ (st : State). record (configuration_of c.args.desk.now) { state = st }) c.read.ensures.kept in
     refused_did c.args.reader c.args.desk.now.session.world.names is.0 c.in-Err.error c.read.new.self.world.names c.args.desk.now.session.world.phrases c.read.new.self.world.phrases m c.refuse_text.result c.args.desk.now.errors c.refuse_text.new.desk.errors (configuration_of c.refuse_text.new.desk) (g.S.Shelf.told c.args.shelf.now) (g.K.Sink.told c.args.sink.now) (g.K.Sink.told c.refuse_text.new.sink) refused.0 c.refuse_text.ensures.memory
     (λ next. stopped_did t.texts (configuration_of c.args.desk.now) c.args.reader is.0 is.1.0 one_next m moves c.in-Err.error c.read.new.self.world.names next (configuration_of (record c.args.desk.now { session = c.read.new.self })) state
-      c.refuse_text.result c.args.desk.now.errors c.refuse_text.new.desk.errors (configuration_of c.refuse_text.new.desk) (record { shelf = g.S.Shelf.told c.args.shelf.now; sink = g.K.Sink.told c.args.sink.now }) (record { shelf = g.S.Shelf.told c.args.shelf.now; sink = g.K.Sink.told c.refuse_text.new.sink })
-      (c.refuse_text.ensures.did (not_memory c.args.reader c.args.desk.now.session.world.names is.0 c.in-Err.error c.read.new.self.world.names next) (g.S.Shelf.told c.args.shelf.now)))
+    c.refuse_text.result c.args.desk.now.errors c.refuse_text.new.desk.errors (configuration_of c.refuse_text.new.desk) (record { shelf = g.S.Shelf.told c.args.shelf.now; sink = g.K.Sink.told c.args.sink.now }) (record { shelf = g.S.Shelf.told c.args.shelf.now; sink = g.K.Sink.told c.refuse_text.new.sink })
+    (c.refuse_text.ensures.did (not_memory c.args.reader c.args.desk.now.session.world.names is.0 c.in-Err.error c.read.new.self.world.names next) (g.S.Shelf.told c.args.shelf.now)))
 
 pub returns-in-Err-clause-going : goal.returns-in-Err-clause-going
 returns-in-Err-clause-going g c = λ on.

@@ -1,11 +1,10 @@
-use Rattle.std.proofs.Common.{◌≡◌, ◌∷◌, [], ◌≤◌, ◌<◌, ◌-◌, List, length, map, arith, refl, sym, ◌∙◌, ap, subst, string_bytes}
-use Rattle.ath_print.specs.Events.{Event}
+use Rattle.std.proofs.Common.{◌≤◌, ◌<◌, ◌-◌, length, map, arith, refl, sym, ◌∙◌, ap, subst, string_bytes}
 use Rattle.ath_print.specs.Stands.{event_of}
 use Rattle.ath_session.specs.State.{State}
 use Rattle.ath_session.specs.Directives.{effect, loads}
 use Rattle.ath_session.specs.Session.{state_of, next_of}
 use Rattle.ath_session.specs.declared.status.Status.TheVariants.{Fuel}
-use Rattle.ath_session.specs.Run.{Move, halts, out_of_fuel, tell_all}
+use Rattle.ath_session.specs.Run.{Move, out_of_fuel, tell_all}
 use Rattle.ath_session.specs.Steps.{configuration_of, Did, Ended}
 use Rattle.ath_session.proofs.DeskLaws.{out_after, ends_before_halt}
 use Rattle.ath_session.proofs.MoveLaws.{goes_is, ends_is, loads_is, no_load_is}

@@ -1,10 +1,7 @@
-use Rattle.std.proofs.Common.{◌∷◌, [], ◌++◌, List, suc, map, take, drop, arith, sym, subst}
+use Rattle.std.proofs.Common.{List, suc, map, take, drop, arith, sym, subst}
 use Rattle.ath_print.specs.Events.{Event}
 use Rattle.ath_print.specs.Stands.{event_of}
 use Rattle.ath_print.specs.declared.event.Event.{Event as Told}
-use Rattle.ath_session.specs.Run.{goes, tell_all}
-use Rattle.ath_session.specs.Steps.{configuration_of, Did}
-use Rattle.ath_session.specs.declared.desk.Flow.TheVariants.{On}
 use Rattle.ath_session.proofs.TellingLaws.{ToldSoFar, told_next, told_part, told_all, told_events, events_split, all_begun}
 use Rattle.ath_session.proofs.desk.tell_all.Goals as goal
 

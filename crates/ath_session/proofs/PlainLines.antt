@@ -189,7 +189,6 @@ other : (b c : ℕ) (text : List ℕ) → (c == 104) ≡ false → b ∷ c ∷ t
 other b c text f e = let h : (c == 104) ≡ true = ap second_is_h e in absurd (cc)
 
 module _ (names files : List (List ℕ)) (all : ArePlain names) where
-
   shown-whole : (v : Value) → IsLine (record { event = shown v; line = line_of names files (shown v) })
   shown-whole (a_term t) = record {
     text = codes "Term: " ++ term_text names t;

@@ -3,6 +3,8 @@ pub mod BuiltLaws
 pub mod Declares
 pub mod DeskLaws
 pub mod MoveLaws
+pub mod PlainLines
+pub mod PlainNames
 pub mod ReadLaws
 pub mod ReplyLaws
 pub mod RunLaws
@@ -12,3 +14,4 @@ pub mod StatementLaws
 pub mod TellingLaws
 pub mod TopLaws
 pub mod WeightLaws
+pub mod WholeLines

@@ -1,9 +1,10 @@
 use Rattle.std.proofs.lemmas.List.{length-map}
-use Rattle.std.proofs.Common.{◌≡◌, ℕ, ◌+◌, ◌<◌, List, length, map, drop, reverse, string_bytes, refl, sym, ◌∙◌, ap, subst, arith}
+use Rattle.std.proofs.lemmas.List.Elements.{All-nil, All-same}
+use Rattle.std.proofs.Common.{◌≡◌, ℕ, ◌+◌, ◌<◌, List, [], length, map, drop, reverse, string_bytes, refl, sym, ◌∙◌, ap, subst, arith}
 use Rattle.ath_session.specs.Run.{Move, asking}
-use Rattle.ath_session.specs.Steps.{configuration_of, Did}
+use Rattle.ath_session.specs.Steps.{configuration_of, Did, IsGoing}
 use Rattle.ath_session.proofs.MoveLaws.{next_waiting, next_is}
-use Rattle.ath_session.proofs.WeightLaws.{file_falls, opens_items}
+use Rattle.ath_session.proofs.WeightLaws.{file_falls, opens_items, opens_going}
 use Rattle.ath_session.proofs.desk.next_file.Goals as goal
 
 pub returns-clause-did : goal.returns-clause-did
@@ -17,6 +18,11 @@ returns-clause-did g c = λ t told.
     (sym (next_is t.texts (configuration_of c.args.desk.now) c.len-2.result (string_bytes c.index.result.now) _ waits file
     ∙ ap (λ (bytes : List ℕ). asking t.texts (configuration_of (record c.args.desk.now { next = c.args.desk.now.next + 1 })) (record { file = c.len-2.result; line = 1; col = 1 }) bytes) name))
     (c.ask.ensures.did t told)
+
+pub returns-clause-going : goal.returns-clause-going
+returns-clause-going g c = λ on.
+    opens_going (configuration_of (record c.args.desk.now { next = c.args.desk.now.next + 1 })) (configuration_of c.ask.new.desk) (c.ask.ensures.opens on)
+    (All-same IsGoing (reverse c.args.desk.now.open.items) [] (ap (λ rs. reverse rs) c.requires) (All-nil IsGoing))
 
 pub returns-clause-falls : goal.returns-clause-falls
 returns-clause-falls g c = λ on.

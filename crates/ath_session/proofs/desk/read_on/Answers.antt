@@ -37,6 +37,13 @@ returns-in-Ok-None-clause-falls g c = λ on.
     let is = All-head IsGoing c.args.reader (reverse c.args.desk.now.open.items) c.requires.going in
     popped_falls (configuration_of c.args.desk.now) (configuration_of (record c.args.desk.now { session = c.read.new.self })) c.args.reader is.0 is.1.0 refl refl
 
+pub run_directive-requires : goal.run_directive-requires
+run_directive-requires g c =
+    let is = All-head IsGoing c.args.reader (reverse c.args.desk.now.open.items) c.requires.going in
+    let answers = reads c.args.reader is.0 c.args.desk.now.session.world.names c.args.desk.now.session.world.phrases c.read.result c.read.new.reader c.read.new.self.world.names c.read.new.self.world.phrases is.1.0 c.read.ensures.answers in
+    let found = whole_of_answer c.args.reader is.0 c.args.desk.now.session.world.names c.args.desk.now.session.world.phrases c.read.new.reader c.read.new.self.world.names c.read.new.self.world.phrases c.read.result answers c.in-Ok-Some.directive (c.in-Ok-Some.is ∙ ap Ok c.in-Ok-Some.field-0-is) in
+    (found.0, found.2)
+
 pub returns-else-is_err-clause-moves : goal.returns-else-is_err-clause-moves
 returns-else-is_err-clause-moves g c = λ t told a b e.
     let is = All-head IsGoing c.args.reader (reverse c.args.desk.now.open.items) c.requires.going in

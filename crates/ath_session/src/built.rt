@@ -2,27 +2,17 @@
 
 ghost use Rattle.std.specs.Prelude.{◌≡◌, ◌<◌, option_map, IfSome};
 ghost use Rattle.std.specs.List.{All};
-ghost use Rattle.ath_env.specs.LookUp.{text_of};
 ghost use Rattle.ath_syntax.specs.Stands.{IsPhrase, ArePhrases, IsStatement};
 ghost use Rattle.ath_syntax.specs.Tree.{Phrase, Phrases as PhraseTrees, Statement};
 ghost use Rattle.ath_session.specs.Built.{is_name, is_method_name, are_expressions, unbuilt, is_boolean, is_boolean_constant, no_parameters, unbuilt_in};
 ghost use Rattle.ath_session.specs.BuiltParts.{AreParts, parts};
 
+use ath_env::text_of;
 use ath_names::Names;
 use ath_sorts::Sym;
 use ath_sorts::sorts::BOOLEAN;
 use ath_syntax::{Form, PhraseId, Phrases, Pos, SortText, What};
 use sqlite_items::Items;
-
-// The text of a name: none where the table lacks it.
-fn text_of(names: &Names, name: Sym) -> &str
-    ensures { result.now ≡ text_of names.now name }
-{
-    if name.0 < names.len() {
-        return names.text(name.0);
-    }
-    ""
-}
 
 fn is_name(names: &Names, phrases: &Phrases, phrase: PhraseId, text: &str) -> bool
     requires { (x : Phrase) × IsPhrase phrases.now phrase x }

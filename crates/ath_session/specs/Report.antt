@@ -1,12 +1,12 @@
 -- The report of words and texts: what is done that is seen, in order, and the status.
-use Rattle.std.specs.Prelude.{◌≡◌, ℕ, Bool, true, false, List, [], ◌∷◌, ◌++◌, Option, Some, None, if◌then◌else◌}
+use Rattle.std.specs.Prelude.{◌≡◌, ℕ, Bool, false, List, [], ◌∷◌, ◌++◌, Option, Some, None, if◌then◌else◌}
 use Rattle.std.specs.List.{list_any}
 use Rattle.ath_words.specs.Words.{Asked, run_of}
 use Rattle.ath_print.specs.Events.{is_refused}
 use Rattle.ath_session.specs.declared.status.Status.{Status}
 use Rattle.ath_session.specs.declared.status.Status.TheVariants.{Clean, Errors, Usage, Fuel, SourceFault}
 use Rattle.ath_session.specs.State.{first_state}
-use Rattle.ath_session.specs.Run.{Said, Item, asks, tells, Configuration, Halt, all_run, out_of_fuel, no_text, halts, Moves, Runs}
+use Rattle.ath_session.specs.Run.{Item, asks, tells, Configuration, Halt, all_run, out_of_fuel, no_text, halts, Moves, Runs}
 
 pub record Report : Type 0 where
   pub log : List Item

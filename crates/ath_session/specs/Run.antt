@@ -5,7 +5,6 @@ use Rattle.ath_syntax.specs.Tree.{DirectiveTree, directive_at}
 use Rattle.ath_io.specs.Shelf.{front_of}
 use Rattle.ath_tokens.specs.declared.tokens.LexKind.{LexKind}
 use Rattle.ath_tokens.specs.declared.tokens.LexKind.TheVariants as lexical
-use Rattle.ath_reader.specs.declared.reader.SyntaxError.{SyntaxError}
 use Rattle.ath_reader.specs.declared.reader.SyntaxKind.{SyntaxKind}
 use Rattle.ath_reader.specs.declared.reader.SyntaxKind.TheVariants as syntax
 use Rattle.ath_reader.specs.Reading.{Reading, reached}
@@ -16,7 +15,7 @@ use Rattle.ath_print.specs.Events as events
 use Rattle.ath_print.specs.Lines.{line_of}
 use Rattle.ath_eval.specs.Outcomes.{refusal}
 use Rattle.ath_session.specs.State.{State, with_names}
-use Rattle.ath_session.specs.Directives.{Next, goes_on, loads, ends, Effect, effect}
+use Rattle.ath_session.specs.Directives.{Next, goes_on, loads, ends, effect}
 
 -- an event and its line
 pub record Said : Type 0 where

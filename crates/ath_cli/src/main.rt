@@ -8,8 +8,8 @@ ghost use Rattle.ath_words.specs.Words.{run_of};
 ghost use Rattle.ath_session.specs.declared.status.Status.TheVariants.{Usage};
 
 use crate::exit::{exit_number, number_without_words};
-use ath_session::{Status, athena};
 use ath_io::{DirShelf, OutSink};
+use ath_session::{Status, athena};
 use std::process::ExitCode;
 use std::rt::Env;
 use std::{env, io};

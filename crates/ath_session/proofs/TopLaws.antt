@@ -61,7 +61,7 @@ module _ (texts : List (List ℕ × List ℕ)) (run : Asked) (o : Outside) where
   module _ (one : OneNext) where
     -- a part of the next move is done
     broken : (status : Status) → ((m : Move) (done more log : List Item) (now now' : Outside) → now ≡ after_items o done → log ≡ done ++ (items_of m ++ more) → Interrupts m status now now' → Performed status log o now')
-      → {c : Configuration} {e : Bool} {now now' : Outside} → At c e now → ((m : Move) → Moves texts c m → Interrupts m status now now') → Broken texts run status o now'
+        → {c : Configuration} {e : Bool} {now now' : Outside} → At c e now → ((m : Move) → Moves texts c m → Interrupts m status now now') → Broken texts run status o now'
     broken status performed {c} {now = now} {now' = now'} a next = record {
       steps = a.done;
       reached = c;
@@ -78,16 +78,26 @@ module _ (texts : List (List ℕ × List ℕ)) (run : Asked) (o : Outside) where
         (done, rest ++ more, name, (all ∙ ap (λ xs. done ++ (xs ++ more)) items, after ∙ (ap (λ p. after_items p (asks name ∷ [])) is ∙ items_more o done (asks name ∷ []))))
 
     sink-performed : (m : Move) (done more log : List Item) (now now' : Outside) → now ≡ after_items o done → log ≡ done ++ (items_of m ++ more) → Interrupts m SinkFault now now' → Performed SinkFault log o now'
-    sink-performed m done more log now now' is all (front, rest, s, count, (items, after)) =
-        (done ++ front, rest ++ more, s, count, (
-         all ∙ (ap (λ xs. done ++ (xs ++ more)) items ∙ (ap (λ xs. done ++ xs) (append_assoc front (tells s ∷ rest) more) ∙ sym (append_assoc done front (tells s ∷ (rest ++ more))))),
-         after ∙ (ap (λ p. after_part p front (take count s.line)) is ∙ part_more o done front (take count s.line))))
+    sink-performed m done more log now now' is all (front, rest, s, count, (items, after)) = (
+      done ++ front,
+      rest ++ more,
+      s,
+      count,
+      (
+        all ∙ (ap (λ xs. done ++ (xs ++ more)) items ∙ (ap (λ xs. done ++ xs) (append_assoc front (tells s ∷ rest) more) ∙ sym (append_assoc done front (tells s ∷ (rest ++ more))))),
+        after ∙ (ap (λ p. after_part p front (take count s.line)) is ∙ part_more o done front (take count s.line)),
+      ),
+    )
 
     memory-performed : (m : Move) (done more log : List Item) (now now' : Outside) → now ≡ after_items o done → log ≡ done ++ (items_of m ++ more) → Interrupts m Memory now now' → Performed Memory log o now'
-    memory-performed m done more log now now' is all (front, rest, (items, after)) =
-        (done ++ front, rest ++ more, (
-         all ∙ (ap (λ xs. done ++ (xs ++ more)) items ∙ (ap (λ xs. done ++ xs) (append_assoc front rest more) ∙ sym (append_assoc done front (rest ++ more)))),
-         after ∙ (ap (λ p. after_items p front) is ∙ items_more o done front)))
+    memory-performed m done more log now now' is all (front, rest, (items, after)) = (
+      done ++ front,
+      rest ++ more,
+      (
+        all ∙ (ap (λ xs. done ++ (xs ++ more)) items ∙ (ap (λ xs. done ++ xs) (append_assoc front rest more) ∙ sym (append_assoc done front (rest ++ more)))),
+        after ∙ (ap (λ p. after_items p front) is ∙ items_more o done front),
+      ),
+    )
 
     out-of-fuel : {c : Configuration} {e : Bool} {now now' : Outside} → At c e now → (m : Move) → Moves texts c m → Ended m Fuel e now now' → Whole texts (Some run) Fuel o now'
     out-of-fuel {c} {now' = now'} a m move (items, (is, after)) =

@@ -124,7 +124,13 @@ fn files_are_run_in_order(rt: HostRuntime) -> Result<(), Fail> {
     let lines = "Symbols: A\nTerm: A\n";
     expect_report(&rt, &["m.ath"], &loaded, lines, Status::Clean)?;
     let absent: [(&str, &[u8]); 1] = [("m.ath", b"true load \"a.ath\" true")];
-    expect_report(&rt, &["m.ath"], &absent, "Term: true\n", Status::SourceFault)?;
+    expect_report(
+        &rt,
+        &["m.ath"],
+        &absent,
+        "Term: true\n",
+        Status::SourceFault,
+    )?;
     Ok(())
 }
 
@@ -135,7 +141,13 @@ fn steps_are_counted(rt: HostRuntime) -> Result<(), Fail> {
         b"(declare A Boolean)\n(assert A)\n(!claim A)\nA\n",
     )];
     let lines = "Symbols: A\nAssertion: A\nTheorem: A\nTerm: A\n";
-    expect_report(&rt, &["--fuel", "5", "r14.ath"], &script, lines, Status::Clean)?;
+    expect_report(
+        &rt,
+        &["--fuel", "5", "r14.ath"],
+        &script,
+        lines,
+        Status::Clean,
+    )?;
     let lines = "Symbols: A\nAssertion: A\nTheorem: A\nFuel: \"r14.ath\":4:1: out of fuel\n";
     expect_report(&rt, &["r14.ath", "--fuel=4"], &script, lines, Status::Fuel)?;
     Ok(())

@@ -1,7 +1,7 @@
 -- The numbers that the program ends with.
 use Rattle.std.specs.Prelude.{ℕ}
-use Rattle.ath_first_run.specs.declared.status.Status.{Status}
-use Rattle.ath_first_run.specs.declared.status.Status.TheVariants.{Clean, Errors, Usage, Fuel, SourceFault, SinkFault, Memory}
+use Rattle.ath_session.specs.declared.status.Status.{Status}
+use Rattle.ath_session.specs.declared.status.Status.TheVariants.{Clean, Errors, Usage, Fuel, SourceFault, SinkFault, Memory}
 
 -- after a run
 abbrev pub number_of : Status → ℕ

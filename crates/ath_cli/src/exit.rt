@@ -4,7 +4,7 @@ ghost use Rattle.std.specs.Prelude.{◌≡◌, ◌≢◌};
 ghost use Rattle.std.specs.declared.io.ErrorKind.TheVariants.{OutOfMemory};
 ghost use Rattle.ath_cli.specs.Exit.{number_of};
 
-use ath_first_run::Status;
+use ath_session::Status;
 use std::io::ErrorKind;
 
 /// The number that the program ends with after a run.

@@ -3,13 +3,13 @@
 
 mod exit;
 
-ghost use Rattle.std.specs.Prelude.{◌≡◌, ◌↔◌, None, map, string_bytes};
-ghost use Rattle.ath_first_run.specs.Report.{file_of};
-ghost use Rattle.ath_first_run.specs.declared.status.Status.TheVariants.{Usage};
+ghost use Rattle.std.specs.Prelude.{◌≡◌, None, map, string_bytes};
+ghost use Rattle.ath_words.specs.Words.{run_of};
+ghost use Rattle.ath_session.specs.declared.status.Status.TheVariants.{Usage};
 
 use crate::exit::{exit_number, number_without_words};
-use ath_first_run::{Status, athena};
 use ath_io::{DirShelf, OutSink};
+use ath_session::{Status, athena};
 use std::process::ExitCode;
 use std::rt::Env;
 use std::{env, io};
@@ -35,7 +35,7 @@ fn words(rt: &(impl Env + AllocGlobal)) -> io::Result<Vec<String>> {
 
 /// Runs the words over the files and standard output; a usage fault is told on standard error.
 fn run(rt: &HostRuntime, words: &Vec<String>) -> Status
-    ensures { (result ≡ Usage) ↔ (file_of (map string_bytes words.now.items) ≡ None) }
+    ensures { result ≡ Usage → run_of (map string_bytes words.now.items) ≡ None }
 {
     let mut shelf = DirShelf::new(rt);
     let mut sink = OutSink::new(rt.stdout());

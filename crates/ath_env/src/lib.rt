@@ -6,5 +6,5 @@ pub mod lookup;
 mod tests;
 pub mod value;
 
-pub use lookup::look_up;
+pub use lookup::{look_up, text_of};
 pub use value::{Value, sentence};

@@ -46,8 +46,8 @@ fn first_value(text: &str) -> Option<Value>
     find_in(&FIRST_VALUES, text)
 }
 
-// The text of a name: none where the table lacks it.
-fn text_of(names: &Names, name: Sym) -> &str
+/// The text of a name: none where the table lacks it.
+pub fn text_of(names: &Names, name: Sym) -> &str
     ensures { result.now ≡ text_of names.now name }
 {
     if name.0 < names.len() {

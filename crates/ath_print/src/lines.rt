@@ -12,8 +12,8 @@ ghost use Rattle.ath_print.specs.Stands.{argument_of, IsArgumentIn, refusal_of, 
 use crate::event::Event;
 use crate::fault::{Fault, FaultArg};
 use crate::pieces::{push, push_both, push_number, push_quoted};
-use crate::words::{connective, file_name, kind, method, quantifier, text};
-use ath_env::Value;
+use crate::words::{connective, file_name, kind, method, quantifier};
+use ath_env::{Value, text_of};
 use ath_names::Names;
 use ath_sorts::Sym;
 use ath_syntax::Pos;
@@ -26,7 +26,7 @@ fn push_term(names: &Names, store: &Store, t: TermId, out: &mut Vec<u8>) -> Resu
 {
     match store.term(t) {
         TermNode::Var(_) => Ok(()),
-        TermNode::App(f, _, _) => push(out, text(names, *f)),
+        TermNode::App(f, _, _) => push(out, text_of(names, *f)),
     }
 }
 
@@ -78,10 +78,10 @@ fn push_listed(names: &Names, numbers: &[Sym], out: &mut Vec<u8>) -> Result<(), 
     let Some((first, others)) = numbers.split_first() else {
         return Ok(());
     };
-    push(out, text(names, *first))?;
+    push(out, text_of(names, *first))?;
     for n in others {
         push(out, ", ")?;
-        push(out, text(names, *n))?;
+        push(out, text_of(names, *n))?;
     }
     Ok(())
 }
@@ -102,7 +102,7 @@ fn push_shown(
             push_term(names, store, t, out)
         }
         Value::Sent(p) => push_told(names, store, "Sentence: ", p, out),
-        Value::Symbol(f) => push_both(out, "Symbol: ", text(names, f)),
+        Value::Symbol(f) => push_both(out, "Symbol: ", text_of(names, f)),
         Value::Conn(conn) => push_both(out, "Symbol: ", connective(conn)),
         Value::Quant(quant) => push_both(out, "Symbol: ", quantifier(quant)),
         Value::Back => push(out, "Symbol: <=="),
@@ -122,7 +122,7 @@ fn push_argument(
 {
     match arg {
         FaultArg::Sent(p) => push_sent(names, store, p, out),
-        FaultArg::Name(n) => push(out, text(names, n)),
+        FaultArg::Name(n) => push(out, text_of(names, n)),
         FaultArg::Number(n) => push_number(alloc, out, n),
     }
 }

@@ -2,23 +2,10 @@
 
 ghost use Rattle.std.specs.Prelude.{◌≡◌, [], map, slice_index_or};
 ghost use Rattle.std.specs.String.{string_bytes};
-ghost use Rattle.ath_env.specs.LookUp.{text_of};
 ghost use Rattle.ath_print.specs.Lines.{conn_text, quant_text, method_text, kind_text};
 
 use crate::fault::FaultKind;
-use ath_names::Names;
-use ath_sorts::Sym;
 use ath_terms::{Conn, Quant};
-
-pub fn text(names: &Names, n: Sym) -> &str
-    ensures { result.now ≡ text_of names.now n }
-{
-    if n.0 < names.len() {
-        names.text(n.0)
-    } else {
-        ""
-    }
-}
 
 pub fn file_name(files: &[String], number: usize) -> &str
     ensures { result.now ≡ slice_index_or (map string_bytes files.now) number [] }

@@ -1,0 +1,17 @@
+pub mod AdvanceLaws
+pub mod BuiltLaws
+pub mod Declares
+pub mod DeskLaws
+pub mod MoveLaws
+pub mod PlainLines
+pub mod PlainNames
+pub mod ReadLaws
+pub mod ReplyLaws
+pub mod RunLaws
+pub mod SessionLaws
+pub mod Sound
+pub mod StatementLaws
+pub mod TellingLaws
+pub mod TopLaws
+pub mod WeightLaws
+pub mod WholeLines

@@ -1,0 +1,124 @@
+-- The replies to a phrase's outcome, to a statement and to a directive.
+use Rattle.std.proofs.Common.{◌≡◌, ℕ, Bool, List, [], ◌∷◌, Option, Some, None, Result, Ok, Err, IfOk, sym, ◌∙◌, ap, subst}
+use Rattle.std.specs.Prelude.{slice_get}
+use Rattle.ath_sorts.specs.declared.sorts.Sym.{Sym}
+use Rattle.ath_syntax.specs.declared.place.Pos.{Pos}
+use Rattle.ath_syntax.specs.declared.node.PhraseId.{PhraseId}
+use Rattle.ath_syntax.specs.declared.node.Node.{Node}
+use Rattle.ath_syntax.specs.declared.node.SortText.{SortText}
+use Rattle.ath_syntax.specs.declared.directive.What.{What}
+use Rattle.ath_syntax.specs.declared.directive.What.TheVariants.{Declare, Assert, Load, Phrase as Plain}
+use Rattle.ath_syntax.specs.declared.directive.Directive.{Directive}
+use Rattle.ath_syntax.specs.Tree.{Phrase, Statement, declare_is, assert_is, load_is, phrase_is, DirectiveTree}
+use Rattle.ath_syntax.specs.Stands.{IsPhrase, IsStatement, IsDirective}
+use Rattle.ath_terms.specs.declared.node.SentId.{SentId}
+use Rattle.ath_terms.specs.Trees.{sent_at}
+use Rattle.ath_env.specs.Values.{value_at, sentence_of}
+use Rattle.ath_env.specs.declared.value.Value as coded
+use Rattle.ath_print.specs.declared.fault.Fault.{Fault}
+use Rattle.ath_print.specs.declared.fault.FaultKind.TheVariants.{NotBuilt}
+use Rattle.ath_print.specs.declared.event.Event.TheVariants as telling
+use Rattle.ath_print.specs.Stands.{refusal_of}
+use Rattle.ath_eval.specs.declared.world.World.{World}
+use Rattle.ath_eval.specs.declared.world.Outcome as code
+use Rattle.ath_eval.specs.declared.world.Outcome.TheVariants as out
+use Rattle.ath_eval.specs.Evaluation.{outcome_of, place}
+use Rattle.ath_eval.specs.World.{Evaluates, IsOutcome}
+use Rattle.ath_session.specs.State.{context, joining, first_taken}
+use Rattle.ath_session.specs.Built as built
+use Rattle.ath_session.specs.Directives.{effect, unless_unbuilt, done, declaring, asserting_sentence, asserting, showing, refusing, loading}
+use Rattle.ath_session.specs.declared.session.Next.TheVariants as next
+use Rattle.ath_session.specs.declared.session.Reply.{Reply}
+use Rattle.ath_session.specs.Session.{state_of, IsReply}
+use Rattle.ath_session.proofs.BuiltLaws.{place_here}
+use Rattle.ath_session.proofs.SessionLaws.{reply_as, refused_plainly, value_asserted, theorem_asserted, error_asserted, spent_asserted, value_shown, theorem_shown, error_shown, spent_shown}
+use Rattle.ath_session.proofs.StatementLaws.{declare_here, assert_here, load_here, phrase_here, other_here, statement_here}
+
+-- ---- a phrase that was evaluated
+module _ (w v : World) (moved : Evaluates w v) (i : PhraseId) (o : code.Outcome) (says : (x : Phrase) → IsPhrase w.phrases i x → IsOutcome v.store v.fuel o (outcome_of (context (state_of w)) x w.fuel)) where
+  abbrev Asserts : World → Reply → Type 0
+  Asserts u r = (x : Phrase) → IsPhrase w.phrases i x → IsReply u r (asserting (state_of w) (place x) (outcome_of (context (state_of w)) x w.fuel))
+
+  abbrev Shows : World → Reply → Type 0
+  Shows u r = (x : Phrase) → IsPhrase w.phrases i x → IsReply u r (showing (state_of w) (outcome_of (context (state_of w)) x w.fuel))
+
+  outcome_is : (k : code.Outcome) → o ≡ k → (x : Phrase) → IsPhrase w.phrases i x → IsOutcome v.store v.fuel k (outcome_of (context (state_of w)) x w.fuel)
+  outcome_is k e x h = subst (λ (y : code.Outcome). IsOutcome v.store v.fuel y (outcome_of (context (state_of w)) x w.fuel)) e (says x h)
+
+  module _ {E : Type 0} where
+    pub value_assertion : (u : World) (a : Result Reply E) (n : Node) (x : coded.Value) → slice_get w.phrases.phrases i.0 ≡ Some n → o ≡ out.Value x → IfOk a (λ r. IsReply u r (asserting_sentence (state_of v) n.pos (sentence_of (value_at v.store x)))) → IfOk a (Asserts u)
+    value_assertion u (Ok r) n x at e h = λ y k. reply_as u r _ _ (value_asserted w v moved x n.pos (place y) _ (outcome_is (out.Value x) e y k) (place_here w.phrases i n y at k)) h
+    value_assertion u (Err m) n x at e h = tt
+
+    pub theorem_assertion : (u : World) (a : Result Reply E) (n : Node) (p : SentId) → slice_get w.phrases.phrases i.0 ≡ Some n → o ≡ out.Theorem p → IfOk a (λ r. IsReply u r (asserting_sentence (state_of v) n.pos (sentence_of (value_at v.store (coded.TheVariants.Sent p))))) → IfOk a (Asserts u)
+    theorem_assertion u (Ok r) n p at e h = λ y k. reply_as u r _ _ (theorem_asserted w v moved p n.pos (place y) _ (outcome_is (out.Theorem p) e y k) (place_here w.phrases i n y at k)) h
+    theorem_assertion u (Err m) n p at e h = tt
+
+    pub error_assertion : (a : Result Reply E) (at : Pos) (f : Fault) → o ≡ out.Error at f → IfOk a (λ r. IsReply v r (refusing (state_of v) at (refusal_of v.store f))) → IfOk a (Asserts v)
+    error_assertion (Ok r) at f e h = λ y k. reply_as v r _ _ (error_asserted w v moved at (place y) f _ (outcome_is (out.Error at f) e y k)) h
+    error_assertion (Err m) at f e h = tt
+
+    pub spent_assertion : (a : Result Reply E) (at : Pos) → o ≡ out.Exhausted at → IfOk a (λ r. (r.events.items ≡ telling.Fuel at ∷ []) × (r.next ≡ next.Stop)) → IfOk a (Asserts v)
+    spent_assertion (Ok r) at e h = λ y k. spent_asserted w v moved r at (place y) _ (outcome_is (out.Exhausted at) e y k) h.0 h.1
+    spent_assertion (Err m) at e h = tt
+
+    pub value_showing : (a : Result Reply E) (x : coded.Value) → o ≡ out.Value x → IfOk a (λ r. (r.events.items ≡ telling.Shown x ∷ []) × (r.next ≡ next.Go)) → IfOk a (Shows v)
+    value_showing (Ok r) x e h = λ y k. value_shown w v moved r x _ (outcome_is (out.Value x) e y k) h.0 h.1
+    value_showing (Err m) x e h = tt
+
+    pub error_showing : (a : Result Reply E) (at : Pos) (f : Fault) → o ≡ out.Error at f → IfOk a (λ r. IsReply v r (refusing (state_of v) at (refusal_of v.store f))) → IfOk a (Shows v)
+    error_showing (Ok r) at f e h = λ y k. reply_as v r _ _ (error_shown w v moved at f _ (outcome_is (out.Error at f) e y k)) h
+    error_showing (Err m) at f e h = tt
+
+    pub spent_showing : (a : Result Reply E) (at : Pos) → o ≡ out.Exhausted at → IfOk a (λ r. (r.events.items ≡ telling.Fuel at ∷ []) × (r.next ≡ next.Stop)) → IfOk a (Shows v)
+    spent_showing (Ok r) at e h = λ y k. spent_shown w v moved r at _ (outcome_is (out.Exhausted at) e y k) h.0 h.1
+    spent_showing (Err m) at e h = tt
+
+  pub theorem_showing : (u : World) (r : Reply) (p : SentId) → o ≡ out.Theorem p → u.store ≡ v.store → state_of u ≡ joining (state_of v) (sent_at v.store.sents p.0) → r.events.items ≡ telling.Theorem p ∷ [] → r.next ≡ next.Go → Shows u r
+  theorem_showing u r p e m j a n = λ y k. theorem_shown w v moved u r p _ (outcome_is (out.Theorem p) e y k) m j a n
+
+-- ---- statements
+module _ (w u : World) (what : What) (at : Pos) where
+  abbrev Tells : Reply → Type 0
+  Tells r = (x : Statement) → IsStatement w.phrases what x → IsReply u r (done (state_of w) at x)
+
+  done_as : (r : Reply) (x y : Statement) → x ≡ y → IsReply u r (done (state_of w) at y) → IsReply u r (done (state_of w) at x)
+  done_as r x y e h = reply_as u r _ _ (ap (done (state_of w) at) (sym e)) h
+
+  module _ {E : Type 0} where
+    pub declare_tells : (a : Result Reply E) (ms ns : List Sym) (ps : Option (List Sym)) (os : List SortText) (s : SortText) → what ≡ Declare ns ps os s → ms ≡ ns → IfOk a (λ r. IsReply u r (declaring (state_of w) at ms (first_taken w.sig ms))) → IfOk a Tells
+    declare_tells (Ok r) ms ns ps os s e m h = λ x k. done_as r x (declare_is ns ps os s) (declare_here w.phrases what x k ns ps os s e) (subst (λ (ms : List Sym). IsReply u r (declaring (state_of w) at ms (first_taken w.sig ms))) m h)
+    declare_tells (Err k) ms ns ps os s e m h = tt
+
+    pub assert_tells : (a : Result Reply E) (n : Option Sym) (closed : Bool) (i : PhraseId) → what ≡ Assert n closed i → IfOk a (λ r. (x : Phrase) → IsPhrase w.phrases i x → IsReply u r (asserting (state_of w) (place x) (outcome_of (context (state_of w)) x w.fuel))) → IfOk a Tells
+    assert_tells (Ok r) n closed i e h = λ x k. let p = assert_here w.phrases what x k n closed i e in done_as r x (assert_is n closed p.0) p.2 (h p.0 p.1)
+    assert_tells (Err k) n closed i e h = tt
+
+    pub load_tells : (a : Result Reply E) (b c : List ℕ) → what ≡ Load b → c ≡ b → IfOk a (λ r. IsReply u r (loading (state_of w) at c)) → IfOk a Tells
+    load_tells (Ok r) b c e m h = λ x k. done_as r x (load_is b) (load_here w.phrases what x k b e) (subst (λ (c : List ℕ). IsReply u r (loading (state_of w) at c)) m h)
+    load_tells (Err k) b c e m h = tt
+
+    pub phrase_tells : (a : Result Reply E) (i : PhraseId) → what ≡ Plain i → IfOk a (λ r. (x : Phrase) → IsPhrase w.phrases i x → IsReply u r (showing (state_of w) (outcome_of (context (state_of w)) x w.fuel))) → IfOk a Tells
+    phrase_tells (Ok r) i e h = λ x k. let p = phrase_here w.phrases what x k i e in done_as r x (phrase_is p.0) p.2 (h p.0 p.1)
+    phrase_tells (Err k) i e h = tt
+
+module _ (w : World) (what : What) (at : Pos) where
+  pub other_tells : {E : Type 0} (a : Result Reply E) (f : Fault) → ((ns : List Sym) (ps : Option (List Sym)) (os : List SortText) (o : SortText) → what ≡ Declare ns ps os o → ⊥) → ((n : Option Sym) (closed : Bool) (i : PhraseId) → what ≡ Assert n closed i → ⊥) → ((b : List ℕ) → what ≡ Load b → ⊥) → ((i : PhraseId) → what ≡ Plain i → ⊥) → f.kind ≡ NotBuilt → f.args ≡ [] → IfOk a (λ r. IsReply w r (refusing (state_of w) at (refusal_of w.store f))) → IfOk a (Tells w w what at)
+  other_tells (Ok r) f nd na nl np k m h = λ x s. refused_plainly w r at f NotBuilt (done (state_of w) at x) k m ((other_here w.phrases what x s nd na nl np).refused (state_of w) at) h
+  other_tells (Err e) f nd na nl np k m h = tt
+
+-- ---- directives
+module _ (w : World) (d : Directive) where
+  abbrev Answers : World → Reply → Type 0
+  Answers u r = (t : DirectiveTree) → IsDirective w.phrases d t → IsReply u r (effect (state_of w) t)
+
+  pub unbuilt_answered : (r : Reply) (at : Pos) (f : Fault) → ((x : Statement) → IsStatement w.phrases d.what x → Some at ≡ built.unbuilt_in w.names d.pos x) → f.kind ≡ NotBuilt → f.args ≡ [] → IsReply w r (refusing (state_of w) at (refusal_of w.store f)) → Answers w r
+  unbuilt_answered r at f says k a h = λ t s.
+      let x = statement_here w.phrases d t s in
+      refused_plainly w r at f NotBuilt (effect (state_of w) t) k a (ap (unless_unbuilt (state_of w) d.pos x.0) (says x.0 x.1) ∙ ap (effect (state_of w)) (sym x.2)) h
+
+  pub built_answered : {E : Type 0} (u : World) (a : Result Reply E) → ((x : Statement) → IsStatement w.phrases d.what x → None ≡ built.unbuilt_in w.names d.pos x) → IfOk a (λ r. (x : Statement) → IsStatement w.phrases d.what x → IsReply u r (done (state_of w) d.pos x)) → IfOk a (Answers u)
+  built_answered u (Ok r) says h = λ t s.
+      let x = statement_here w.phrases d t s in
+      reply_as u r (done (state_of w) d.pos x.0) _ (ap (unless_unbuilt (state_of w) d.pos x.0) (says x.0 x.1) ∙ ap (effect (state_of w)) (sym x.2)) (h x.0 x.1)
+  built_answered u (Err e) says h = tt

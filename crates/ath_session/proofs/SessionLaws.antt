@@ -1,0 +1,196 @@
+-- What a directive's reply stands for.
+use Rattle.std.proofs.Common.{◌≡◌, ℕ, ◌≤◌, Bool, true, false, List, [], ◌∷◌, ◌++◌, length, map, take, drop, Option, Some, None, if◌then◌else◌, refl, sym, ◌∙◌, ap, subst, arith}
+use Rattle.std.specs.Str.{is_utf8, IsUtf8}
+use Rattle.std.proofs.lemmas.Str.{IsUtf8-from_is_utf8, is_utf8-from_IsUtf8}
+use Rattle.std.proofs.lemmas.List.{length-take, take-append-le, take-append-drop}
+use Rattle.std.proofs.lemmas.List.Elements.{All-nil, All-cons, All-same}
+use Rattle.ath_names.specs.Names.{Grows}
+use Rattle.ath_syntax.specs.declared.place.Pos.{Pos}
+use Rattle.ath_terms.specs.Tree.{Sent}
+use Rattle.ath_terms.specs.Trees as trees
+use Rattle.ath_terms.specs.declared.node.SentId.{SentId}
+use Rattle.ath_env.specs.Values.{value_at, sentence_of, IsSentenceOf}
+use Rattle.ath_env.proofs.ValueLaws.{sentence-some, sentence-none}
+use Rattle.ath_env.specs.declared.value.Value as coded
+use Rattle.ath_print.specs.declared.fault.Fault.{Fault}
+use Rattle.ath_print.specs.declared.fault.FaultKind.{FaultKind}
+use Rattle.ath_print.specs.declared.fault.FaultKind.TheVariants.{NotSentence, BadUtf8}
+use Rattle.ath_print.specs.declared.event.Event as told
+use Rattle.ath_print.specs.declared.event.Event.TheVariants as telling
+use Rattle.ath_print.specs.Events.{Event}
+use Rattle.ath_print.specs.Stands.{argument_of, refusal_of, event_of, IsEventIn}
+use Rattle.ath_eval.specs.declared.world.World.{World}
+use Rattle.ath_eval.specs.declared.world.Outcome.TheVariants as out
+use Rattle.ath_eval.specs.Base.{sents_of}
+use Rattle.ath_eval.specs.World.{Evaluates, IsOutcome}
+use Rattle.ath_eval.specs.Outcomes.{Outcome, gives, concludes, fails, exhausts, refusal}
+use Rattle.ath_eval.proofs.Base.{sents_grow}
+use Rattle.ath_session.specs.State.{State, with_fuel, joining}
+use Rattle.ath_session.specs.Directives.{loads, Effect, asserting_sentence, asserting, showing, refusing, ending, loading}
+use Rattle.ath_session.specs.declared.session.Next.TheVariants as next
+use Rattle.ath_session.specs.declared.session.Reply.{Reply}
+use Rattle.ath_session.specs.Session.{state_of, AreEvents, next_of, IsReply}
+
+-- ---- a table that begins with the first names
+pub begins : (first names : List (List ℕ)) → take (length first) names ≡ first → Grows first names
+begins first names h = record { more = drop (length first) names; longer = sym (take-append-drop (length first) names) ∙ ap (λ front. front ++ drop (length first) names) h }
+
+pub begins_still : (first names new : List (List ℕ)) → take (length first) names ≡ first → Grows names new → take (length first) new ≡ first
+begins_still first names new h g =
+    let le : length first ≤ length names = omega (arith, ap length h, length-take (length first) names) in
+    ap (take (length first)) g.longer ∙ take-append-le (length first) names g.more le ∙ h
+
+-- ---- replies
+pub reply_as : (w : World) (r : Reply) (e f : Effect) → e ≡ f → IsReply w r e → IsReply w r f
+reply_as w r e f h k = subst (IsReply w r) h k
+
+pub one_event : (s : trees.Trees) (es : List told.Event) (e : told.Event) (x : Event) → es ≡ e ∷ [] → IsEventIn s e → event_of s e ≡ x → AreEvents s es (x ∷ [])
+one_event s es e x h k m = (All-same (IsEventIn s) es (e ∷ []) h (All-cons (IsEventIn s) e [] k (All-nil (IsEventIn s))), ap (map (event_of s)) h ∙ ap (λ y. y ∷ []) m)
+
+-- the state, where an evaluation has moved it
+pub state_moved : (w v : World) → Evaluates w v → state_of v ≡ with_fuel (state_of w) v.fuel
+state_moved w v e =
+    let b : sents_of v.store v.base.items ≡ sents_of w.store w.base.items = ap (sents_of v.store) e.base ∙ sents_grow w.store v.store e.grows w.base.items w.in_store in
+    let n = e.names in
+    let g = e.signature in
+    λ i. record { names = n i; signature = g i; base = b i; fuel = v.fuel }
+
+pub state_left : (w v : World) (left : ℕ) → Evaluates w v → v.fuel ≡ left → state_of v ≡ with_fuel (state_of w) left
+state_left w v left e f = state_moved w v e ∙ ap (with_fuel (state_of w)) f
+
+-- ---- what an evaluation gives, asserted
+module _ (w v : World) (moved : Evaluates w v) where
+  pub value_asserted : (x : coded.Value) (at place : Pos) (o : Outcome) → IsOutcome v.store v.fuel (out.Value x) o → place ≡ at → asserting_sentence (state_of v) at (sentence_of (value_at v.store x)) ≡ asserting (state_of w) place o
+  value_asserted x at place (gives y left) h e =
+      let s = state_left w v left moved h.2 in
+      let p = sym e in
+      let q = ap sentence_of h.0.1 in
+      λ i. asserting_sentence (s i) (p i) (q i)
+  value_asserted x at place (concludes y left) h e = absurd h
+  value_asserted x at place (fails inner why left) h e = absurd h
+  value_asserted x at place (exhausts inner) h e = absurd h
+
+  pub theorem_asserted : (p : SentId) (at place : Pos) (o : Outcome) → IsOutcome v.store v.fuel (out.Theorem p) o → place ≡ at → asserting_sentence (state_of v) at (sentence_of (value_at v.store (coded.TheVariants.Sent p))) ≡ asserting (state_of w) place o
+  theorem_asserted p at place (concludes y left) h e =
+      let s = state_left w v left moved h.2 in
+      let f = sym e in
+      let q = h.0.1 in
+      λ i. asserting_sentence (s i) (f i) (Some (q i))
+  theorem_asserted p at place (gives y left) h e = absurd h
+  theorem_asserted p at place (fails inner why left) h e = absurd h
+  theorem_asserted p at place (exhausts inner) h e = absurd h
+
+  pub error_asserted : (at place : Pos) (f : Fault) (o : Outcome) → IsOutcome v.store v.fuel (out.Error at f) o → refusing (state_of v) at (refusal_of v.store f) ≡ asserting (state_of w) place o
+  error_asserted at place f (fails inner why left) h =
+      let s = state_left w v left moved h.2 in
+      let p = h.0 in
+      let q = h.1.1 in
+      λ i. refusing (s i) (p i) (q i)
+  error_asserted at place f (gives y left) h = absurd h
+  error_asserted at place f (concludes y left) h = absurd h
+  error_asserted at place f (exhausts inner) h = absurd h
+
+  pub error_shown : (at : Pos) (f : Fault) (o : Outcome) → IsOutcome v.store v.fuel (out.Error at f) o → refusing (state_of v) at (refusal_of v.store f) ≡ showing (state_of w) o
+  error_shown at f (fails inner why left) h =
+      let s = state_left w v left moved h.2 in
+      let p = h.0 in
+      let q = h.1.1 in
+      λ i. refusing (s i) (p i) (q i)
+  error_shown at f (gives y left) h = absurd h
+  error_shown at f (concludes y left) h = absurd h
+  error_shown at f (exhausts inner) h = absurd h
+
+  spent_here : (r : Reply) (at inner : Pos) → (at ≡ inner) → v.fuel ≡ 0 → r.events.items ≡ telling.Fuel at ∷ [] → r.next ≡ next.Stop → IsReply v r (ending (state_of w) inner)
+  spent_here r at inner p f e n = record {
+    events = one_event v.store r.events.items (telling.Fuel at) (Event.exhausted inner) e tt (ap Event.exhausted p);
+    next = ap next_of n;
+    state = state_left w v 0 moved f;
+  }
+
+  pub spent_asserted : (r : Reply) (at place : Pos) (o : Outcome) → IsOutcome v.store v.fuel (out.Exhausted at) o → r.events.items ≡ telling.Fuel at ∷ [] → r.next ≡ next.Stop → IsReply v r (asserting (state_of w) place o)
+  spent_asserted r at place (exhausts inner) h e n = spent_here r at inner h.0 h.1 e n
+  spent_asserted r at place (gives y left) h e n = absurd h
+  spent_asserted r at place (concludes y left) h e n = absurd h
+  spent_asserted r at place (fails inner why left) h e n = absurd h
+
+  pub spent_shown : (r : Reply) (at : Pos) (o : Outcome) → IsOutcome v.store v.fuel (out.Exhausted at) o → r.events.items ≡ telling.Fuel at ∷ [] → r.next ≡ next.Stop → IsReply v r (showing (state_of w) o)
+  spent_shown r at (exhausts inner) h e n = spent_here r at inner h.0 h.1 e n
+  spent_shown r at (gives y left) h e n = absurd h
+  spent_shown r at (concludes y left) h e n = absurd h
+  spent_shown r at (fails inner why left) h e n = absurd h
+
+  pub value_shown : (r : Reply) (x : coded.Value) (o : Outcome) → IsOutcome v.store v.fuel (out.Value x) o → r.events.items ≡ telling.Shown x ∷ [] → r.next ≡ next.Go → IsReply v r (showing (state_of w) o)
+  value_shown r x (gives y left) h e n = record {
+    events = one_event v.store r.events.items (telling.Shown x) (Event.shown y) e h.0.0 (ap Event.shown h.0.1);
+    next = ap next_of n;
+    state = state_left w v left moved h.2;
+  }
+  value_shown r x (concludes y left) h e n = absurd h
+  value_shown r x (fails inner why left) h e n = absurd h
+  value_shown r x (exhausts inner) h e n = absurd h
+
+  -- the conclusion, when it has joined the base
+  pub theorem_shown : (u : World) (r : Reply) (p : SentId) (o : Outcome) → IsOutcome v.store v.fuel (out.Theorem p) o → u.store ≡ v.store → state_of u ≡ joining (state_of v) (trees.sent_at v.store.sents p.0) → r.events.items ≡ telling.Theorem p ∷ [] → r.next ≡ next.Go → IsReply u r (showing (state_of w) o)
+  theorem_shown u r p (concludes y left) h m j e n =
+      let s = state_left w v left moved h.2 in
+      let q = h.0.1 in
+      record {
+        events = subst (λ (t : trees.Trees). AreEvents t r.events.items (Event.proved y ∷ [])) (sym m) (one_event v.store r.events.items (telling.Theorem p) (Event.proved y) e h.0.0 (ap Event.proved q));
+        next = ap next_of n;
+        state = j ∙ (λ i. joining (s i) (q i));
+      }
+  theorem_shown u r p (gives y left) h m j e n = absurd h
+  theorem_shown u r p (fails inner why left) h m j e n = absurd h
+  theorem_shown u r p (exhausts inner) h m j e n = absurd h
+
+-- ---- what is refused
+pub plain_refusal : (s : trees.Trees) (f : Fault) (k : FaultKind) → f.kind ≡ k → f.args ≡ [] → refusal_of s f ≡ refusal k []
+plain_refusal s f k e g = λ i. record { kind = e i; args = map (argument_of s) (g i) }
+
+pub refused_plainly : (w : World) (r : Reply) (at : Pos) (f : Fault) (k : FaultKind) (e : Effect) → f.kind ≡ k → f.args ≡ [] → refusing (state_of w) at (refusal k []) ≡ e → IsReply w r (refusing (state_of w) at (refusal_of w.store f)) → IsReply w r e
+refused_plainly w r at f k e p q g h = reply_as w r _ e (ap (refusing (state_of w) at) (plain_refusal w.store f k p q) ∙ g) h
+
+-- ---- a value that is asserted, in a store that has grown
+module _ (w : World) (t : trees.Trees) (grown : trees.Grows w.store t) (x : coded.Value) where
+  abbrev grown_state : State
+  grown_state = record { names = w.names; signature = w.sig; base = sents_of t w.base.items; fuel = w.fuel }
+
+  same_state : grown_state ≡ state_of w
+  same_state = ap (λ (ps : List Sent). record { names = w.names; signature = w.sig; base = ps; fuel = w.fuel }) (sents_grow w.store t grown w.base.items w.in_store)
+
+  pub no_sentence : (u : World) (r : Reply) (at : Pos) (found : Option SentId) (f : Fault) → IsSentenceOf t found (sentence_of (value_at w.store x)) → found ≡ None → f.kind ≡ NotSentence → f.args ≡ [] → IsReply u r (refusing grown_state at (refusal_of t f)) → IsReply u r (asserting_sentence (state_of w) at (sentence_of (value_at w.store x)))
+  no_sentence u r at found f h e k a p =
+      let n = sentence-none t found (sentence_of (value_at w.store x)) h e in
+      let q = plain_refusal t f NotSentence k a in
+      let s = same_state in
+      reply_as u r _ _ ((λ i. refusing (s i) at (q i)) ∙ ap (asserting_sentence (state_of w) at) (sym n)) p
+
+  pub sentence_joined : (v : World) (r : Reply) (at : Pos) (found : Option SentId) (p : SentId) → IsSentenceOf t found (sentence_of (value_at w.store x)) → found ≡ Some p → v.store ≡ t → state_of v ≡ joining grown_state (trees.sent_at t.sents p.0) → r.events.items ≡ telling.Assertion p ∷ [] → r.next ≡ next.Go → IsReply v r (asserting_sentence (state_of w) at (sentence_of (value_at w.store x)))
+  sentence_joined v r at found p h e m j a n =
+      let y = sentence-some t found (sentence_of (value_at w.store x)) p h e in
+      let s = same_state in
+      let q = y.2.1 in
+      reply_as v r (asserting_sentence (state_of w) at (Some y.0)) _ (ap (asserting_sentence (state_of w) at) (sym y.1)) (record {
+        events = subst (λ (t : trees.Trees). AreEvents t r.events.items (Event.asserted y.0 ∷ [])) (sym m) (one_event t r.events.items (telling.Assertion p) (Event.asserted y.0) a y.2.0 (ap Event.asserted q));
+        next = ap next_of n;
+        state = j ∙ (λ i. joining (s i) (q i));
+      })
+
+-- ---- a file that is loaded
+no_utf8 : (b : List ℕ) → (IsUtf8 b → ⊥) → is_utf8 b ≡ false
+no_utf8 b h = by (is_utf8 b) refl
+  where
+    by : (t : Bool) → is_utf8 b ≡ t → is_utf8 b ≡ false
+    by true e = absurd (h (IsUtf8-from_is_utf8 b e))
+    by false e = e
+
+abbrev loading_if : Bool → State → Pos → List ℕ → Effect
+loading_if b st at name = if b then record { state = st; events = []; next = loads name } else refusing st at (refusal BadUtf8 [])
+
+pub load_refused : (w : World) (r : Reply) (at : Pos) (f : Fault) (name : List ℕ) → (IsUtf8 name → ⊥) → f.kind ≡ BadUtf8 → f.args ≡ [] → IsReply w r (refusing (state_of w) at (refusal_of w.store f)) → IsReply w r (loading (state_of w) at name)
+load_refused w r at f name h k a p = refused_plainly w r at f BadUtf8 (loading (state_of w) at name) k a (ap (λ b. loading_if b (state_of w) at name) (sym (no_utf8 name h))) p
+
+pub load_told : (w : World) (r : Reply) (at : Pos) (name : List ℕ) → IsUtf8 name → r.events.items ≡ [] → next_of r.next ≡ loads name → IsReply w r (loading (state_of w) at name)
+load_told w r at name h e n =
+    reply_as w r (record { state = state_of w; events = []; next = loads name }) _ (ap (λ b. loading_if b (state_of w) at name) (sym (is_utf8-from_IsUtf8 name h)))
+    (record { events = (All-same (IsEventIn w.store) r.events.items [] e (All-nil (IsEventIn w.store)), ap (map (event_of w.store)) e); next = n; state = refl })

@@ -1,0 +1,12 @@
+use Rattle.std.proofs.Common.{map, sym, ◌∙◌, ap, string_bytes}
+use Rattle.ath_print.specs.Stands.{event_of}
+use Rattle.ath_session.specs.Steps.{configuration_of}
+use Rattle.ath_session.proofs.DeskLaws.{line_failed, line_there, put_failed}
+use Rattle.ath_session.proofs.desk.tell.Goals as goal
+
+pub returns-then-is_err-clause-did : goal.returns-then-is_err-clause-did
+returns-then-is_err-clause-did g c = λ told.
+    let event = event_of c.args.desk.now.session.world.store c.args.event.now in
+    let is = c.as_slice-2.ensures.value ∙ line_there c.args.desk.now.session.world c.world-world.result.now _ _ c.args.event.now _ c.world-world.ensures (ap (λ fs. map string_bytes fs) c.as_slice.ensures.value) c.in-Ok.ensures in
+    let failed = put_failed _ _ _ c.put.result c.put.ensures.taken (sym c.is_err.ensures.value ∙ c.if-is_err.true) in
+    line_failed (configuration_of c.args.desk.now) event told _ _ c.as_slice-2.result.now is c.args.desk.now.errors failed.0 failed.1

@@ -1,0 +1,27 @@
+use Rattle.std.proofs.Common.{refl}
+use Rattle.ath_session.proofs.ReplyLaws.{declare_tells, assert_tells, load_tells, phrase_tells, other_tells}
+use Rattle.ath_session.proofs.session.Session.run_built.Goals as goal
+
+pub returns-in-Declare-clause-reply : goal.returns-in-Declare-clause-reply
+returns-in-Declare-clause-reply c =
+    let k = c.in-Declare in
+    declare_tells c.args.self.now.world c.declare.new.self.world c.args.directive.now.what c.args.directive.now.pos c.declare.result c.as_slice.result.now k.names k.field-1 k.field-2 k.field-3 k.is c.as_slice.ensures c.declare.ensures.reply
+
+pub returns-in-Assert-clause-reply : goal.returns-in-Assert-clause-reply
+returns-in-Assert-clause-reply c =
+    let k = c.in-Assert in
+    assert_tells c.args.self.now.world c.assert.new.self.world c.args.directive.now.what c.args.directive.now.pos c.assert.result k.field-0 k.field-1 k.phrase k.is c.assert.ensures.reply
+
+pub returns-in-Load-clause-reply : goal.returns-in-Load-clause-reply
+returns-in-Load-clause-reply c =
+    load_tells c.args.self.now.world c.args.self.now.world c.args.directive.now.what c.args.directive.now.pos c.load.result c.in-Load.name c.as_slice-in-Load.result.now c.in-Load.is c.as_slice-in-Load.ensures c.load.ensures
+
+pub returns-in-Phrase-clause-reply : goal.returns-in-Phrase-clause-reply
+returns-in-Phrase-clause-reply c =
+    phrase_tells c.args.self.now.world c.show.new.self.world c.args.directive.now.what c.args.directive.now.pos c.show.result c.in-Phrase.phrase c.in-Phrase.is c.show.ensures.reply
+
+pub returns-in_default : goal.returns-in_default
+returns-in_default c = record {
+  text = record { names = refl; phrases = refl };
+  reply = other_tells c.args.self.now.world c.args.directive.now.what c.args.directive.now.pos c.refuse.result c.plain.result (λ ns ps os o e. c.in_default.not-Declare ns ps os o e) (λ n b i e. c.in_default.not-Assert n b i e) (λ b e. c.in_default.not-Load b e) (λ i e. c.in_default.not-Phrase i e) c.plain.ensures.kind c.plain.ensures.args c.refuse.ensures;
+}

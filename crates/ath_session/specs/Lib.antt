@@ -1,0 +1,11 @@
+pub mod Built
+pub mod BuiltParts
+pub mod Directives
+pub mod Ends
+pub mod Laws
+pub mod Report
+pub mod Run
+pub mod Session
+pub mod State
+pub mod Steps
+pub mod Theorems

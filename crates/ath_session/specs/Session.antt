@@ -1,0 +1,37 @@
+-- What a session stands for, and its replies.
+use Rattle.std.specs.Prelude.{◌≡◌, ℕ, List, map, string_bytes}
+use Rattle.std.specs.List.{All}
+use Rattle.ath_terms.specs.Trees.{Trees}
+use Rattle.ath_print.specs.declared.event.Event as told
+use Rattle.ath_print.specs.Events.{Event}
+use Rattle.ath_print.specs.Stands.{event_of, IsEventIn}
+use Rattle.ath_eval.specs.declared.world.World.{World}
+use Rattle.ath_eval.specs.Base.{sents_of}
+use Rattle.ath_session.specs.declared.session.Next as answer
+use Rattle.ath_session.specs.declared.session.Next.TheVariants as code
+use Rattle.ath_session.specs.declared.session.Reply.{Reply}
+use Rattle.ath_session.specs.State.{State}
+use Rattle.ath_session.specs.Directives.{Next, goes_on, loads, ends, Effect}
+
+abbrev pub state_of : World → State
+state_of w = record { names = w.names; signature = w.sig; base = sents_of w.store w.base.items; fuel = w.fuel }
+
+-- the numbers in the events are numbers of the store, and the events stand for these
+abbrev pub AreEvents : Trees → List told.Event → List Event → Type 0
+AreEvents s es xs = All (IsEventIn s) es × (map (event_of s) es ≡ xs)
+
+abbrev pub next_of : answer.Next → Next
+next_of code.Go = goes_on
+next_of (code.Load name) = loads (string_bytes name)
+next_of code.Stop = ends
+
+-- a reply, and the world after it, are this effect
+pub record IsReply (w : World) (r : Reply) (e : Effect) : Type 0 where
+  pub events : AreEvents w.store r.events.items e.events
+  pub next : next_of r.next ≡ e.next
+  pub state : state_of w ≡ e.state
+
+-- what a directive, a reading and a refusal of a text keep
+pub record KeepsText (old new : World) : Type 0 where
+  pub names : new.names ≡ old.names
+  pub phrases : new.phrases ≡ old.phrases

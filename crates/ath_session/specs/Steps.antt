@@ -1,0 +1,79 @@
+-- What a step of a run has done.
+use Rattle.std.specs.Prelude.{◌≡◌, ◌⊎◌, ℕ, ◌+◌, ◌-◌, ◌*◌, ◌^◌, ◌<◌, ◌≤◌, Bool, true, false, ◌||◌, List, [], ◌∷◌, ◌++◌, length, map, drop, take, reverse, string_bytes}
+use Rattle.std.specs.List.{All}
+use Rattle.ath_reader.specs.Reading.{Reading, Progress, reached, refused}
+use Rattle.ath_session.specs.declared.status.Status.{Status}
+use Rattle.ath_session.specs.declared.status.Status.TheVariants.{Clean, Errors, Usage, Fuel, SourceFault, SinkFault, Memory}
+use Rattle.ath_session.specs.declared.desk.Desk.{Desk}
+use Rattle.ath_session.specs.declared.desk.Flow.{Flow}
+use Rattle.ath_session.specs.declared.desk.Flow.TheVariants.{On, End}
+use Rattle.ath_session.specs.Run.{Said, Item, asks, tells, Configuration, reading_of, most_bytes, Move, goes, halts, items_of, all_run, out_of_fuel}
+use Rattle.ath_session.specs.Report.{has_error}
+use Rattle.ath_session.specs.Session.{state_of}
+use Rattle.ath_session.specs.State.{first_state}
+use Rattle.ath_session.specs.Ends.{Outside, after_items, after_part}
+
+abbrev pub configuration_of : Desk → Configuration
+configuration_of d = record {
+  waiting = drop d.next (map string_bytes d.named.items);
+  stack = reverse d.open.items;
+  files = map string_bytes d.files.items;
+  state = state_of d.session.world;
+}
+
+-- nothing is done yet, and these files are to be run with this fuel
+pub record IsNewDesk (d : Desk) (fuel : ℕ) (files : List (List ℕ)) : Type 0 where
+  pub named : map string_bytes d.named.items ≡ files
+  pub next : d.next ≡ 0
+  pub empty : d.open.items ≡ []
+  pub no_files : d.files.items ≡ []
+  pub state : state_of d.session.world ≡ first_state fuel
+  pub errors : d.errors ≡ false
+
+-- What is done of a move, where the run ends. `errors` says whether an error was told before.
+abbrev pub Ended : Move → Status → Bool → Outside → Outside → Type 0
+Ended m Clean errors o o' = (m ≡ halts [] all_run) × (errors ≡ false) × (o' ≡ o)
+Ended m Errors errors o o' = (m ≡ halts [] all_run) × (errors ≡ true) × (o' ≡ o)
+Ended m Fuel errors o o' = (items : List Item) × ((m ≡ halts items out_of_fuel) × (o' ≡ after_items o items))
+Ended m SourceFault errors o o' = (name : List ℕ) × (more : List Item) × ((items_of m ≡ asks name ∷ more) × (o' ≡ after_items o (asks name ∷ [])))
+Ended m SinkFault errors o o' = (front : List Item) × (more : List Item) × (s : Said) × (count : ℕ) × ((items_of m ≡ front ++ tells s ∷ more) × (o' ≡ after_part o front (take count s.line)))
+Ended m Memory errors o o' = (front : List Item) × (more : List Item) × ((items_of m ≡ front ++ more) × (o' ≡ after_items o front))
+Ended m Usage errors o o' = ⊥
+
+-- What is done of a move, by how the run flows on: all of it, after which the configuration is this one and whether an error
+-- was told is `after`; or what is done where the run ends.
+abbrev pub Did : Move → Flow → Bool → Bool → Configuration → Outside → Outside → Type 0
+Did m On before after c o o' = (items : List Item) × ((m ≡ goes items c) × (after ≡ (before || has_error items)) × (o' ≡ after_items o items))
+Did m (End status) before after c o o' = Ended m status before o o'
+
+-- a text has been read up to a byte of it
+abbrev pub IsGoing : Reading → Type 0
+IsGoing r = (n : ℕ) × ((r.progress ≡ reached n) × (n ≤ length r.text))
+
+abbrev pub AreGoing : Configuration → Type 0
+AreGoing c = All IsGoing c.stack
+
+-- at most one text more is open, from its beginning
+abbrev pub Opens : Configuration → Configuration → Type 0
+Opens c d = (d.waiting ≡ c.waiting) × ((d.stack ≡ c.stack) ⊎ ((file : ℕ) × (text : List ℕ) × ((length text ≤ most_bytes) × (d.stack ≡ reading_of file text ∷ c.stack))))
+
+-- a text that was fetched is open, or is too long
+abbrev pub IsOpened : Configuration → List ℕ → List ℕ → Bool → Configuration → Type 0
+IsOpened c name text true d = (length text ≤ most_bytes) × (d ≡ record c { files = c.files ++ name ∷ []; stack = reading_of (length c.files) text ∷ c.stack })
+IsOpened c name text false d = (most_bytes < length text) × (d ≡ record c { files = c.files ++ name ∷ [] })
+
+-- How much of a run is left, so that each step leaves less: the files that wait, and the bytes of the open texts, of which
+-- one counts as much as a whole text in it.
+abbrev pub whole_text : ℕ
+whole_text = 4194306
+
+abbrev pub bytes_left : Reading → Progress → ℕ
+bytes_left r (reached n) = 1 + (length r.text - n)
+bytes_left r (refused e) = 0
+
+abbrev pub open_weight : List Reading → ℕ
+open_weight [] = 0
+open_weight (r ∷ rs) = bytes_left r r.progress * whole_text ^ (17 - length rs) + open_weight rs
+
+abbrev pub weight : Configuration → ℕ
+weight c = length c.waiting * whole_text ^ 18 + open_weight c.stack

@@ -1,0 +1,34 @@
+// Laws of directives, runs and reports.
+
+ghost use Rattle.ath_session.specs.Laws.{OneReport, EachTheoremFollows, RefusedLeavesState, FuelNeverRises, ExhaustedKeepsState, EachLineIsWhole};
+
+/// The words and the texts by name have one report.
+pub fn one_report()
+    ensures { OneReport }
+{}
+
+/// Each theorem of a report has a derivation, under no hypotheses, from the sentences that were asserted before it.
+pub fn each_theorem_follows()
+    ensures { EachTheoremFollows }
+{}
+
+/// A directive that is refused has that one event, and leaves all of the state but the fuel.
+pub fn refused_leaves_state()
+    ensures { RefusedLeavesState }
+{}
+
+/// Fuel never rises.
+pub fn fuel_never_rises()
+    ensures { FuelNeverRises }
+{}
+
+/// A directive that is exhausted has that one event, leaves all of the state but the fuel, of which none is left, and ends
+/// the run.
+pub fn exhausted_keeps_state()
+    ensures { ExhaustedKeepsState }
+{}
+
+/// Each line has one line end, its last byte, and begins with `Theorem: ` exactly where its event is a theorem.
+pub fn each_line_is_whole()
+    ensures { EachLineIsWhole }
+{}

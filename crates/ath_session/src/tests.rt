@@ -1,0 +1,190 @@
+use super::*;
+use ath_io::{MemoryShelf, MemorySink};
+use std::alloc::{AllocError, Global};
+use std::process::Abort;
+use std::test::Fail;
+
+fn words(alloc: Global, words: &[&str]) -> Result<Vec<String>, AllocError> {
+    let mut all = Vec::new(alloc);
+    for word in words {
+        all.push(String::from_str(alloc, word)?)?;
+    }
+    Ok(all)
+}
+
+/// A shelf of these names with their texts.
+fn shelf_of(alloc: Global, files: &[(&str, &[u8])]) -> Result<MemoryShelf, AllocError> {
+    let mut texts = Vec::new(alloc);
+    for (name, text) in files {
+        texts.push((String::from_str(alloc, name)?, text.to_vec(alloc)?))?;
+    }
+    Ok(MemoryShelf::new(alloc, texts, Vec::new(alloc)))
+}
+
+/// Runs these words over a shelf of these files, and compares the lines and the status with these.
+fn expect_report(
+    rt: &(impl Abort + AllocGlobal),
+    named: &[&str],
+    files: &[(&str, &[u8])],
+    lines: &str,
+    status: Status,
+) -> Result<(), AllocError> {
+    let alloc = rt.alloc();
+    let mut shelf = shelf_of(alloc, files)?;
+    let mut sink = MemorySink::new(alloc, 1_000_000, Vec::new(alloc))?;
+    let answer = athena(alloc, &words(alloc, named)?, &mut shelf, &mut sink);
+    assert_eq!(rt; sink.bytes(), lines.as_bytes(), "{lines}");
+    assert_eq!(rt; answer, status, "{lines}");
+    Ok(())
+}
+
+const FIRST: &[u8] = b"(declare (A B) Boolean)\n(assert (if A B))\n(assert A)\n(!mp (if A B) A)\n";
+
+const FIRST_LINES: &str = "Symbols: A, B\nAssertion: (if A B)\nAssertion: A\nTheorem: B\n";
+
+/// Runs a script of the name `x.ath`.
+fn expect_lines(
+    rt: &(impl Abort + AllocGlobal),
+    script: &[u8],
+    lines: &str,
+    status: Status,
+) -> Result<(), AllocError> {
+    expect_report(rt, &["x.ath"], &[("x.ath", script)], lines, status)
+}
+
+#[test]
+fn scripts_give_their_reports(rt: HostRuntime) -> Result<(), Fail> {
+    let rows: [(&[u8], &str, Status); 11] = [
+        (FIRST, FIRST_LINES, Status::Clean),
+        (b"# nothing\n", "", Status::Clean),
+        (
+            b"declare A, B: Boolean\n(!mp (if A B) A)\n(!claim A) A\n",
+            "Symbols: A, B\nError: \"x.ath\":2:1: NotInBase (if A B)\nError: \"x.ath\":3:1: NotInBase A\nTerm: A\n",
+            Status::Errors,
+        ),
+        (
+            b"declare A: Boolean declare B, A: Boolean B declare C, C: Boolean declare true: Boolean",
+            "Symbols: A\nError: \"x.ath\":1:20: Redeclared A\nError: \"x.ath\":1:42: Unbound B\nError: \"x.ath\":1:44: Redeclared C\nError: \"x.ath\":1:66: Redeclared true\n",
+            Status::Errors,
+        ),
+        (
+            b"declare mp: Boolean (!mp mp) (if mp true) claim <== (if A true)",
+            "Symbols: mp\nError: \"x.ath\":1:21: NotMethod\nSentence: (if mp true)\nMethod: claim\nSymbol: <==\nError: \"x.ath\":1:57: Unbound A\n",
+            Status::Errors,
+        ),
+        (
+            b"declare A: Boolean (if A A A) (if claim A) (!mp A []) assert mp (!mp A A) (!claim)",
+            "Symbols: A\nError: \"x.ath\":1:20: ArgCount 2 3\nError: \"x.ath\":1:31: WrongKind 1\nError: \"x.ath\":1:51: NotBuilt\nError: \"x.ath\":1:62: NotSentence\nError: \"x.ath\":1:65: WrongShape 1\nError: \"x.ath\":1:75: ArgCount 1 0\n",
+            Status::Errors,
+        ),
+        (
+            b"(define x true)",
+            "Error: \"x.ath\":1:1: NotBuilt\n",
+            Status::Errors,
+        ),
+        (
+            b"(declare A Boolean)\n(A = A)",
+            "Symbols: A\nError: \"x.ath\":2:4: Unexpected\n",
+            Status::Errors,
+        ),
+        (
+            b"(declare A Boolean)\n\"\xC3",
+            "Symbols: A\nError: \"x.ath\":2:2: BadUtf8\n",
+            Status::Errors,
+        ),
+        (
+            b"(declare A Boolean)\n(and (!claim A) A)",
+            "Symbols: A\nError: \"x.ath\":2:7: KindMix\n",
+            Status::Errors,
+        ),
+        (
+            b"load \"x.ath\"",
+            "Error: \"x.ath\":1:1: TooManyLoads\n",
+            Status::Errors,
+        ),
+    ];
+    for (script, lines, status) in rows {
+        expect_lines(&rt, script, lines, status)?;
+    }
+    Ok(())
+}
+
+#[test]
+fn files_are_run_in_order(rt: HostRuntime) -> Result<(), Fail> {
+    let twice: [(&str, &[u8]); 2] = [
+        ("r23.ath", b"(declare A Boolean)\n(assert A))\nA"),
+        ("x.ath", b"A"),
+    ];
+    let lines = "Symbols: A\nAssertion: A\nError: \"r23.ath\":2:11: Unexpected\nTerm: A\n";
+    expect_report(&rt, &["r23.ath", "x.ath"], &twice, lines, Status::Errors)?;
+    let loaded: [(&str, &[u8]); 2] = [
+        ("m.ath", b"load \"a.ath\" A"),
+        ("a.ath", b"declare A: Boolean"),
+    ];
+    let lines = "Symbols: A\nTerm: A\n";
+    expect_report(&rt, &["m.ath"], &loaded, lines, Status::Clean)?;
+    let absent: [(&str, &[u8]); 1] = [("m.ath", b"true load \"a.ath\" true")];
+    expect_report(
+        &rt,
+        &["m.ath"],
+        &absent,
+        "Term: true\n",
+        Status::SourceFault,
+    )?;
+    Ok(())
+}
+
+#[test]
+fn steps_are_counted(rt: HostRuntime) -> Result<(), Fail> {
+    let script: [(&str, &[u8]); 1] = [(
+        "r14.ath",
+        b"(declare A Boolean)\n(assert A)\n(!claim A)\nA\n",
+    )];
+    let lines = "Symbols: A\nAssertion: A\nTheorem: A\nTerm: A\n";
+    expect_report(
+        &rt,
+        &["--fuel", "5", "r14.ath"],
+        &script,
+        lines,
+        Status::Clean,
+    )?;
+    let lines = "Symbols: A\nAssertion: A\nTheorem: A\nFuel: \"r14.ath\":4:1: out of fuel\n";
+    expect_report(&rt, &["r14.ath", "--fuel=4"], &script, lines, Status::Fuel)?;
+    Ok(())
+}
+
+#[test]
+fn other_words_ask_for_nothing(rt: HostRuntime) -> Result<(), Fail> {
+    let alloc = rt.alloc();
+    let rows: [&[&str]; 4] = [
+        &[],
+        &["--fuel", "0", "a.ath"],
+        &["--generate", "5", "a.ath"],
+        &["--help"],
+    ];
+    for row in rows {
+        let mut shelf = shelf_of(alloc, &[("a.ath", FIRST)])?;
+        let mut sink = MemorySink::new(alloc, 100, Vec::new(alloc))?;
+        let answer = athena(alloc, &words(alloc, row)?, &mut shelf, &mut sink);
+        assert_eq!(rt; answer, Status::Usage);
+        assert_eq!(rt; shelf.asked().len(), 0);
+        assert_eq!(rt; sink.bytes(), "".as_bytes());
+    }
+    Ok(())
+}
+
+#[test]
+fn faults_end_the_report(rt: HostRuntime) -> Result<(), Fail> {
+    let alloc = rt.alloc();
+    let mut shelf = shelf_of(alloc, &[("r20.ath", FIRST)])?;
+    let mut sink = MemorySink::new(alloc, 100, [(2, 0)].to_vec(alloc)?)?;
+    let answer = athena(alloc, &words(alloc, &["r20.ath"])?, &mut shelf, &mut sink);
+    assert_eq!(rt; sink.bytes(), "Symbols: A, B\n".as_bytes());
+    assert_eq!(rt; answer, Status::SinkFault);
+    let mut sink = MemorySink::new(alloc, 100, Vec::new(alloc))?;
+    let named = words(alloc, &["r20.ath", "other.ath"])?;
+    let answer = athena(alloc, &named, &mut shelf, &mut sink);
+    assert_eq!(rt; sink.bytes(), FIRST_LINES.as_bytes());
+    assert_eq!(rt; answer, Status::SourceFault);
+    Ok(())
+}

@@ -23,6 +23,7 @@ abbrev pub are_expressions : Phrases → Bool
 are_expressions no_phrases = true
 are_expressions (more_phrases x xs) = not (is_deduction x) && are_expressions xs
 
+-- the first place that is there
 abbrev pub or_else : Option Pos → Option Pos → Option Pos
 or_else None q = q
 or_else (Some p) q = Some p

@@ -20,6 +20,7 @@ pub data Next : Type 0 where
   loads : List ℕ → Next
   ends : Next
 
+-- the state after a directive, its events in order, and how the run goes on
 pub record Effect : Type 0 where
   pub state : State
   pub events : List Event
@@ -36,6 +37,7 @@ abbrev pub declaring : State → Pos → List Sym → Option Sym → Effect
 declaring st at ns (Some n) = refusing st at (refusal Redeclared (name_named n ∷ []))
 declaring st at ns None = telling (record st { signature = with_constants st.signature ns }) (declared ns)
 
+-- no fuel is left, and the run ends
 abbrev pub ending : State → Pos → Effect
 ending st at = record { state = with_fuel st 0; events = exhausted at ∷ []; next = ends }
 
@@ -61,6 +63,7 @@ showing st (exhausts at) = ending st at
 abbrev pub loading : State → Pos → List ℕ → Effect
 loading st at name = if is_utf8 name then record { state = st; events = []; next = loads name } else refusing st at (refusal BadUtf8 [])
 
+-- a directive that is built
 abbrev pub done : State → Pos → Statement → Effect
 done st at (declare_is ns params args result) = declaring st at ns (first_taken st.signature ns)
 done st at (assert_is n closed x) = asserting st (place x) (outcome_of (context st) x st.fuel)

@@ -56,7 +56,8 @@ pub record Whole (texts : List (List ℕ × List ℕ)) (run : Option Asked) (sta
   pub follows : TheoremsFollow report
   pub done : Performed status report.log before after
 
--- Some steps of the run are done, in which each theorem follows, and a part of the next; and so a front of each report.
+-- Some steps of the run, in which each theorem follows. They are done, and a part of the next, where there is a next; and a
+-- front of each report is done.
 pub record Broken (texts : List (List ℕ × List ℕ)) (run : Asked) (status : Status) (before after : Outside) : Type 0 where
   pub steps : List Item
   pub reached : Configuration

@@ -10,7 +10,7 @@ use Rattle.ath_session.specs.Run.{Said, Item, asks, tells}
 use Rattle.ath_session.specs.Report.{Report, IsReport}
 use Rattle.ath_session.specs.Theorems.{TheoremsFollow}
 
--- the words and the texts have one report
+-- the words and the texts have one report at most
 abbrev pub OneReport : Type 0
 OneReport = (words : List (List ℕ)) (texts : List (List ℕ × List ℕ)) (r s : Report) → IsReport words texts r → IsReport words texts s → r ≡ s
 

@@ -8,6 +8,7 @@ use Rattle.ath_session.specs.declared.status.Status.TheVariants.{Clean, Errors, 
 use Rattle.ath_session.specs.State.{first_state}
 use Rattle.ath_session.specs.Run.{Item, asks, tells, Configuration, Halt, all_run, out_of_fuel, no_text, halts, Moves, Runs}
 
+-- what is done that is seen, in order, and the status
 pub record Report : Type 0 where
   pub log : List Item
   pub status : Status
@@ -31,6 +32,7 @@ is_error (tells s) = is_refused s.event
 abbrev pub has_error : List Item → Bool
 has_error items = list_any is_error items
 
+-- a run that goes to its end has errors where one of its events is an error
 abbrev pub status_of : Halt → List Item → Status
 status_of all_run log = if has_error log then Errors else Clean
 status_of out_of_fuel log = Fuel

@@ -41,6 +41,7 @@ pub data Halt : Type 0 where
   out_of_fuel : Halt
   no_text : Halt
 
+-- some items, and the configuration after them or why the run is over
 pub data Move : Type 0 where
   goes : List Item → Configuration → Move
   halts : List Item → Halt → Move
@@ -70,6 +71,7 @@ opened c at name text =
     then goes (asks name ∷ said named (events.refused at (refusal FileTooLong [])) ∷ []) named
     else goes (asks name ∷ []) (record named { stack = reading_of (length c.files) text ∷ c.stack })
 
+-- the run ends at a name without a text
 abbrev pub fetched : Configuration → Pos → List ℕ → Option (List ℕ) → Move
 fetched c at name None = halts (asks name ∷ []) no_text
 fetched c at name (Some text) = opened c at name text
@@ -102,6 +104,7 @@ following texts c outer at es (loads name) =
     then asking texts c at name
     else goes (said c (events.refused at (refusal TooManyLoads [])) ∷ []) c
 
+-- a syntax error has the kind of its fault
 abbrev pub lexical_kind : LexKind → FaultKind
 lexical_kind lexical.BadUtf8 = BadUtf8
 lexical_kind lexical.BadChar = BadChar
@@ -131,6 +134,7 @@ turned texts c r rs (reading.stopped e known) =
     let after = record c { stack = rs; state = with_names known c.state } in
     goes (said after (events.refused e.pos (refusal (fault_kind e.kind) [])) ∷ []) after
 
+-- the next step, by whether a text is open
 abbrev pub Turns : List (List ℕ × List ℕ) → Configuration → List Reading → Move → Type 0
 Turns texts c [] m = m ≡ next_file texts c c.waiting
 Turns texts c (r ∷ rs) m = (n : reading.Next) × reading.IsNext r c.state.names (reading.byte_reached r.progress) n × (m ≡ turned texts c r rs n)

@@ -17,6 +17,7 @@ signature_after sig (shown v) = sig
 signature_after sig (refused at why) = sig
 signature_after sig (exhausted at) = sig
 
+-- an asserted sentence joins those asserted before
 abbrev pub asserted_after : List Sent → Event → List Sent
 asserted_after ps (declared ns) = ps
 asserted_after ps (asserted p) = ps ++ p ∷ []
@@ -25,6 +26,7 @@ asserted_after ps (shown v) = ps
 asserted_after ps (refused at why) = ps
 asserted_after ps (exhausted at) = ps
 
+-- a theorem is derivable; other events claim nothing
 abbrev pub IsJustified : Signature → List Sent → Event → Type 0
 IsJustified sig ps (declared ns) = Unit {0}
 IsJustified sig ps (asserted p) = Unit {0}

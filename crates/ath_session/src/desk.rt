@@ -125,7 +125,7 @@ fn tell_fault<K: Sink>(
     tell(alloc, desk, &event, sink)
 }
 
-/// Fetches the text of a name and opens it; `at` is the place that one that is too long is told at.
+/// Fetches the text of a name and opens it; a text that is too long is told at `at`.
 fn ask<S: Shelf, K: Sink>(
     alloc: Global,
     desk: &mut Desk,
@@ -169,6 +169,7 @@ fn open(alloc: Global, desk: &mut Desk, name: &str, text: Vec<u8>) -> Result<boo
     Ok(true)
 }
 
+/// Want of memory never comes here: it ends the run.
 fn lexical_kind(kind: LexKind) -> FaultKind
     ensures { result ≡ lexical_kind kind }
 {
@@ -181,6 +182,7 @@ fn lexical_kind(kind: LexKind) -> FaultKind
     }
 }
 
+/// Want of memory never comes here: it ends the run.
 fn fault_kind(kind: SyntaxKind) -> FaultKind
     ensures { result ≡ fault_kind kind }
 {

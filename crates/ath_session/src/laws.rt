@@ -2,7 +2,7 @@
 
 ghost use Rattle.ath_session.specs.Laws.{OneReport, EachTheoremFollows, RefusedLeavesState, FuelNeverRises, ExhaustedKeepsState, EachLineIsWhole};
 
-/// The words and the texts by name have one report.
+/// The words and the texts by name have one report at most.
 pub fn one_report()
     ensures { OneReport }
 {}

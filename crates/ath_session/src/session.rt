@@ -149,7 +149,8 @@ impl Session {
         &self.world
     }
 
-    /// The next directive of a text, as the reader answers it over the session's names, phrases and operators.
+    /// The next directive of a text, as the reader answers it over the session's names and phrases. The operators are handed
+    /// on, and not used yet.
     pub fn read(
         &mut self,
         alloc: Global,
@@ -178,7 +179,7 @@ impl Session {
         self.run_built(alloc, directive)
     }
 
-    /// The reply to a text that is refused, at a place: the one event, after which the run goes on.
+    /// The reply to a directive that is refused, at a place: the one event, after which the run goes on.
     pub fn refuse(&self, alloc: Global, at: Pos, fault: Fault) -> Result<Reply, AllocError>
         requires { IsFaultIn self.now.world.store fault }
         ensures { IfOk result (λ r. IsReply self.now.world r (refusing (state_of self.now.world) at (refusal_of self.now.world.store fault))) }

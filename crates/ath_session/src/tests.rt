@@ -112,11 +112,11 @@ fn scripts_give_their_reports(rt: HostRuntime) -> Result<(), Fail> {
 #[test]
 fn files_are_run_in_order(rt: HostRuntime) -> Result<(), Fail> {
     let twice: [(&str, &[u8]); 2] = [
-        ("r23.ath", b"(declare A Boolean)\n(assert A))\nA"),
+        ("twice.ath", b"(declare A Boolean)\n(assert A))\nA"),
         ("x.ath", b"A"),
     ];
-    let lines = "Symbols: A\nAssertion: A\nError: \"r23.ath\":2:11: Unexpected\nTerm: A\n";
-    expect_report(&rt, &["r23.ath", "x.ath"], &twice, lines, Status::Errors)?;
+    let lines = "Symbols: A\nAssertion: A\nError: \"twice.ath\":2:11: Unexpected\nTerm: A\n";
+    expect_report(&rt, &["twice.ath", "x.ath"], &twice, lines, Status::Errors)?;
     let loaded: [(&str, &[u8]); 2] = [
         ("m.ath", b"load \"a.ath\" A"),
         ("a.ath", b"declare A: Boolean"),
@@ -137,19 +137,25 @@ fn files_are_run_in_order(rt: HostRuntime) -> Result<(), Fail> {
 #[test]
 fn steps_are_counted(rt: HostRuntime) -> Result<(), Fail> {
     let script: [(&str, &[u8]); 1] = [(
-        "r14.ath",
+        "steps.ath",
         b"(declare A Boolean)\n(assert A)\n(!claim A)\nA\n",
     )];
     let lines = "Symbols: A\nAssertion: A\nTheorem: A\nTerm: A\n";
     expect_report(
         &rt,
-        &["--fuel", "5", "r14.ath"],
+        &["--fuel", "5", "steps.ath"],
         &script,
         lines,
         Status::Clean,
     )?;
-    let lines = "Symbols: A\nAssertion: A\nTheorem: A\nFuel: \"r14.ath\":4:1: out of fuel\n";
-    expect_report(&rt, &["r14.ath", "--fuel=4"], &script, lines, Status::Fuel)?;
+    let lines = "Symbols: A\nAssertion: A\nTheorem: A\nFuel: \"steps.ath\":4:1: out of fuel\n";
+    expect_report(
+        &rt,
+        &["steps.ath", "--fuel=4"],
+        &script,
+        lines,
+        Status::Fuel,
+    )?;
     Ok(())
 }
 
@@ -176,13 +182,13 @@ fn other_words_ask_for_nothing(rt: HostRuntime) -> Result<(), Fail> {
 #[test]
 fn faults_end_the_report(rt: HostRuntime) -> Result<(), Fail> {
     let alloc = rt.alloc();
-    let mut shelf = shelf_of(alloc, &[("r20.ath", FIRST)])?;
+    let mut shelf = shelf_of(alloc, &[("first.ath", FIRST)])?;
     let mut sink = MemorySink::new(alloc, 100, [(2, 0)].to_vec(alloc)?)?;
-    let answer = athena(alloc, &words(alloc, &["r20.ath"])?, &mut shelf, &mut sink);
+    let answer = athena(alloc, &words(alloc, &["first.ath"])?, &mut shelf, &mut sink);
     assert_eq!(rt; sink.bytes(), "Symbols: A, B\n".as_bytes());
     assert_eq!(rt; answer, Status::SinkFault);
     let mut sink = MemorySink::new(alloc, 100, Vec::new(alloc))?;
-    let named = words(alloc, &["r20.ath", "other.ath"])?;
+    let named = words(alloc, &["first.ath", "other.ath"])?;
     let answer = athena(alloc, &named, &mut shelf, &mut sink);
     assert_eq!(rt; sink.bytes(), FIRST_LINES.as_bytes());
     assert_eq!(rt; answer, Status::SourceFault);

@@ -163,8 +163,8 @@ impl Session {
         reader.directive(alloc, &mut world.names, &mut world.phrases, &self.operators)
     }
 
-    /// Runs a directive that was read by this session. A directive that is refused keeps all but the fuel; where memory is
-    /// wanted, it may be done in part, and the run has to end.
+    /// Runs a directive that `read` gave. One that is refused keeps all but the fuel; where memory is wanted, it may be done
+    /// in part, and the run has to end.
     pub fn directive(&mut self, alloc: Global, directive: &Directive) -> Result<Reply, AllocError>
         requires { (d : DirectiveTree) × IsDirective self.old.world.phrases directive.now d }
         ensures text { KeepsText self.old.world self.new.world }

@@ -19,7 +19,7 @@ use Rattle.ath_sorts.proofs.Gets.{map-both}
 use Rattle.ath_sorts.proofs.SortLaws.{sort_induction}
 use Rattle.ath_sorts.proofs.Bools.{true-not-false, or_parts, or_false, turned}
 
-first_none : (f : Option SigError) (fs : List (Option SigError)) → first_fault (f ∷ fs) ≡ None → (f ≡ None) × (first_fault fs ≡ None)
+pub first_none : (f : Option SigError) (fs : List (Option SigError)) → first_fault (f ∷ fs) ≡ None → (f ≡ None) × (first_fault fs ≡ None)
 first_none None fs h = (refl, h)
 first_none (Some e) fs h = absurd (cc)
 
@@ -58,10 +58,10 @@ arity-kept : (es : List (Sym × ℕ)) (e : Sym × ℕ) (n : Sym) (k : ℕ) → a
 arity-kept [] e n k h = absurd (cc)
 arity-kept (x ∷ es) e n k h = kept_step (x.0.0 == n.0) x.1 k (arity_among es n) (arity_among (es ++ e ∷ []) n) (arity-kept es e n k) h
 
-use-var : (sig : Signature) (params : List Sym) (v : SVar) → use_fault sig params (Var v) ≡ use_step sig params (one.Var v)
+pub use-var : (sig : Signature) (params : List Sym) (v : SVar) → use_fault sig params (Var v) ≡ use_step sig params (one.Var v)
 use-var sig params v = ap (use_fault sig params) (sym (rolls-Var v)) ∙ fold-roll-Sort (Option SigError) (use_step sig params) (one.Var v)
 
-use-con : (sig : Signature) (params : List Sym) (c : Sym) (args : List Sort) → use_fault sig params (Con c args) ≡ constructor_fault (arity_of sig c) c (map (use_fault sig params) args)
+pub use-con : (sig : Signature) (params : List Sym) (c : Sym) (args : List Sort) → use_fault sig params (Con c args) ≡ constructor_fault (arity_of sig c) c (map (use_fault sig params) args)
 use-con sig params c args = ap (use_fault sig params) (sym (rolls-Con c args)) ∙ fold-roll-Sort (Option SigError) (use_step sig params) (one.Con c args)
 
 same-var-step : (sig other : Signature) (params : List Sym) (v : SVar) → use_step sig params (one.Var v) ≡ use_step other params (one.Var v)
@@ -152,7 +152,7 @@ symbols_keep_validity sig s h differ written e =
       });
     }
 
-made-con : (c : Sym) (args : List Sort) → has_made (Con c args) ≡ list_any (λ b. b) (map has_made args)
+pub made-con : (c : Sym) (args : List Sort) → has_made (Con c args) ≡ list_any (λ b. b) (map has_made args)
 made-con c args = ap has_made (sym (rolls-Con c args)) ∙ fold-roll-Sort Bool made_step (one.Con c args)
 
 truth_valid : (n : Sym) → IsValidSymbol initial (truth_value n)
@@ -169,3 +169,6 @@ initial_valid = record {
   symbols_differ = (refl, (refl, tt));
   symbols = (truth_valid (record { 0 = 1 }), (truth_valid (record { 0 = 2 }), tt));
 }
+
+pub made-var : (v : SVar) → has_made (Var v) ≡ made_step (one.Var v)
+made-var v = ap has_made (sym (rolls-Var v)) ∙ fold-roll-Sort Bool made_step (one.Var v)

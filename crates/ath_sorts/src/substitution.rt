@@ -56,7 +56,7 @@ impl Model for SortSubst {
 
 impl SortSubst {
     /// The map without entries.
-    pub(crate) fn new(alloc: Global) -> SortSubst
+    pub fn new(alloc: Global) -> SortSubst
         ensures { result ≡ [] }
     {
         SortSubst {
@@ -65,7 +65,7 @@ impl SortSubst {
     }
 
     /// Adds an entry behind those that are there.
-    pub(crate) fn push(&mut self, v: SVar, sort: Sort) -> Result<(), AllocError>
+    pub fn push(&mut self, v: SVar, sort: Sort) -> Result<(), AllocError>
         ensures { OnOk result (self.new ≡ self.old ++ (v, sort) ∷ []) }
     {
         self.entries.push((v, sort))?;
@@ -88,11 +88,18 @@ impl SortSubst {
     pub fn apply(&self, alloc: Global, sort: &Sort) -> Result<Sort, UnifyError>
         ensures { MatchApplied (apply_to (image self.now) sort.now) result }
     {
-        if self.nodes_left(sort, MOST_NODES).is_none() || !self.is_depth_within(sort, MOST_DEPTH) {
+        if !self.is_within_limits(sort) {
             return Err(UnifyError::SortTooLarge);
         }
         let applied = self.applied(alloc, sort)?;
         Ok(applied)
+    }
+
+    /// Whether the sort is within the limits once each variable is replaced by what it is mapped to.
+    pub fn is_within_limits(&self, sort: &Sort) -> bool
+        ensures { result ≡ is_small (apply_to (image self.now) sort.now) }
+    {
+        self.nodes_left(sort, MOST_NODES).is_some() && self.is_depth_within(sort, MOST_DEPTH)
     }
 
     /// What a budget of nodes leaves after those of the sort once the map is applied.
@@ -136,7 +143,8 @@ impl SortSubst {
         }
     }
 
-    fn applied(&self, alloc: Global, sort: &Sort) -> Result<Sort, AllocError>
+    /// As `apply`, where the limits are known to be kept.
+    pub fn applied(&self, alloc: Global, sort: &Sort) -> Result<Sort, AllocError>
         ensures { IfOk result (λ r. r ≡ apply_to (image self.now) sort.now) }
     {
         match sort {

@@ -1,0 +1,4 @@
+//! Unification of sorts as a function.
+#![tactic(auto)]
+
+pub mod laws;

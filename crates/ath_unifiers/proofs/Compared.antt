@@ -1,5 +1,5 @@
 -- What the first difference of two sorts says of the maps that make them equal.
-use Rattle.std.proofs.Common.{◌≡◌, ℕ, ◌+◌, ◌≤◌, Bool, true, false, ◌==◌, cond, List, [], ◌∷◌, map, sum, refl, sym, ◌∙◌, ap, subst, arith, ◌⊎◌, inl, inr}
+use Rattle.std.proofs.Common.{◌≡◌, ℕ, ◌≤◌, Bool, true, false, ◌==◌, cond, List, [], ◌∷◌, map, sum, refl, sym, ◌∙◌, ap, subst, arith, ◌⊎◌, inl, inr}
 use Rattle.std.proofs.lemmas.Grind.{common_steps}
 use Rattle.std.specs.List.{AllByRecursion, list_any}
 use Rattle.ath_sorts.specs.declared.sorts.SVar.{SVar}
@@ -13,7 +13,7 @@ use Rattle.ath_sorts.proofs.Bools.{bool_cases, either_of, either_to, true-not-fa
 use Rattle.ath_sorts.proofs.Gets.{cons-head, cons-tail}
 use Rattle.ath_sorts.proofs.SortLaws.{sort_induction, apply-var, apply-con, size-con, occurs-var, occurs-con, Con-inj, Var-inj, Var-not-Con, same_svar-true, same_svar-refl}
 use Rattle.ath_sorts.proofs.SubstitutionLaws.{sort_cases}
-use Rattle.ath_unifiers.specs.Differences.{Difference, none, binds, apart, Compared, first_of, first_among, binding, between, compare_step, compared_step, compared, difference}
+use Rattle.ath_unifiers.specs.Differences.{Difference, none, binds, apart, Compared, first_of, first_among, binding, between, compare_step, whole, compared, difference}
 
 pub same_turned : (v w : SVar) → same_svar v w ≡ false → same_svar w v ≡ false
 same_turned v w e = elim (bool_cases (same_svar w v)) [
@@ -96,11 +96,14 @@ module _ (first : SVar → SVar → Bool) where
   in_turn S T U E F G H I J both e f h i apart r m n = λ k p. m k (e k p)
 
   -- how the first difference is computed
-  compared-var : (v : SVar) → compared first (Var v) ≡ compared_step first (one.Var v)
-  compared-var v = ap (compared first) (sym (rolls-Var v)) ∙ fold-roll-Sort Compared (compared_step first) (one.Var v)
+  abbrev step : one.Sort-F Compared → Compared
+  step x = (whole x, λ t. compare_step first x (out-Sort t))
 
-  compared-con : (c : Sym) (args : List Sort) → compared first (Con c args) ≡ compared_step first (one.Con c (map (compared first) args))
-  compared-con c args = ap (compared first) (sym (rolls-Con c args)) ∙ fold-roll-Sort Compared (compared_step first) (one.Con c args)
+  compared-var : (v : SVar) → compared first (Var v) ≡ step (one.Var v)
+  compared-var v = ap (compared first) (sym (rolls-Var v)) ∙ fold-roll-Sort Compared step (one.Var v)
+
+  compared-con : (c : Sym) (args : List Sort) → compared first (Con c args) ≡ step (one.Con c (map (compared first) args))
+  compared-con c args = ap (compared first) (sym (rolls-Con c args)) ∙ fold-roll-Sort Compared step (one.Con c args)
 
   all_rebuilt : (args : List Sort) → AllByRecursion (λ s. (compared first s).0 ≡ s) args → map (λ p. p.0) (map (compared first) args) ≡ args
   all_rebuilt [] h = refl
@@ -138,9 +141,6 @@ module _ (first : SVar → SVar → Bool) where
   con-con c args d others = difference-con c args (Con d others) ∙ ap (compare_step first (one.Con c (map (compared first) args))) (outs-Con d others) ∙ ap (λ ds. cond (c.0 == d.0) (first_among ds others) apart) (tests args)
 
   -- what it says
-  abbrev Equals : Sort → Sort → (SVar → Sort) → Type 0
-  Equals s t f = apply_to f s ≡ apply_to f t
-
   abbrev pub IsInside : Sort → Sort → SVar → Type 0
   IsInside s t u = (occurs u s ≡ true) ⊎ (occurs u t ≡ true)
 

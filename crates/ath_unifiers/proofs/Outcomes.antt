@@ -1,5 +1,5 @@
 -- The outcome is what was to be found, and answers are outcomes.
-use Rattle.std.proofs.Common.{◌≡◌, ℕ, ◌+◌, ◌<◌, ◌≤◌, Bool, true, false, cond, ◌&&◌, IsTrue, List, [], ◌∷◌, length, take, Option, Some, None, Result, Ok, Err, refl, sym, ◌∙◌, ap, subst, arith, ◌⊎◌, inl, inr}
+use Rattle.std.proofs.Common.{◌≡◌, ℕ, ◌+◌, ◌<◌, Bool, true, false, cond, ◌&&◌, List, [], ◌∷◌, length, Some, Result, Ok, Err, refl, sym, ◌∙◌, ap, arith, ◌⊎◌, inl, inr}
 use Rattle.std.proofs.lemmas.Grind.{common_steps}
 use Rattle.std.specs.List.{list_all}
 use Rattle.ath_sorts.specs.declared.sorts.SVar.{SVar}
@@ -7,9 +7,9 @@ use Rattle.ath_sorts.specs.declared.sorts.Sort.{Sort, Var}
 use Rattle.ath_sorts.specs.declared.substitution.UnifyError.{UnifyError}
 use Rattle.ath_sorts.specs.declared.substitution.UnifyError.TheVariants.{Clash, SortTooLarge, Memory}
 use Rattle.ath_sorts.specs.Limits.{is_small}
-use Rattle.ath_sorts.specs.Sorts.{same_svar, image, apply_to}
+use Rattle.ath_sorts.specs.Sorts.{same_svar, image}
 use Rattle.ath_sorts.specs.Substitutions.{entry_of}
-use Rattle.ath_sorts.specs.Unifiers.{Unifies, HasUnifier, IsLeastUnifier, IsClash, MatchUnified, precedes, vars_read}
+use Rattle.ath_sorts.specs.Unifiers.{IsLeastUnifier, IsClash, MatchUnified, precedes, vars_read}
 use Rattle.ath_sorts.proofs.Bools.{true-not-false, and_parts, bool_cases}
 use Rattle.ath_sorts.proofs.Gets.{some-not-none}
 use Rattle.ath_sorts.proofs.SortLaws.{size-var, depth-var, same_svar-true}
@@ -65,6 +65,7 @@ outcome_is pairs (Ok s) h = by (has_small_images s) refl
     by false e = (s, least_of pairs s h, one_large s s e)
 
 pub unified_is : (pairs : List (Sort × Sort)) → IsUnified pairs (unified pairs)
+unfolding unified
 unified_is pairs =
     let read = vars_read pairs in
     let among : (u : SVar) → _ = λ u. read_in u pairs in
@@ -101,3 +102,6 @@ answer_is pairs (Err SortTooLarge) (solved t) h m = absurd (not_both pairs t m.0
 answer_is pairs (Err SortTooLarge) (clashes at) h m = absurd (clash_not_unified pairs at m.0 h m.1)
 answer_is pairs (Err SortTooLarge) too_large h m = refl
 answer_is pairs (Err Memory) u h m = tt
+
+pub answers_agree : (pairs : List (Sort × Sort)) (answer : Result (List (SVar × Sort)) UnifyError) → MatchUnified pairs answer → MatchOutcome answer (unified pairs)
+answers_agree pairs answer m = answer_is pairs answer (unified pairs) (unified_is pairs) m

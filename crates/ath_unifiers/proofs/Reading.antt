@@ -1,17 +1,16 @@
 -- The variables of the pairs whose sides differ, and what becomes of them when a variable is replaced.
-use Rattle.std.proofs.Common.{◌≡◌, ℕ, suc, ◌+◌, ◌<◌, ◌≤◌, Bool, true, false, cond, ◌||◌, List, [], ◌∷◌, ◌++◌, map, length, take, refl, sym, ◌∙◌, ap, subst, arith, ◌⊎◌, inl, inr}
+use Rattle.std.proofs.Common.{◌≡◌, ℕ, ◌<◌, ◌≤◌, Bool, true, false, cond, List, [], ◌∷◌, ◌++◌, map, length, take, refl, sym, ◌∙◌, ap, subst, arith, ◌⊎◌, inl, inr}
 use Rattle.std.specs.List.{AllByRecursion, list_any}
 use Rattle.std.proofs.lemmas.List.{take-map}
 use Rattle.std.proofs.lemmas.List.Folds.{list_any-append}
 use Rattle.ath_sorts.specs.declared.sorts.SVar.{SVar}
-use Rattle.ath_sorts.specs.declared.sorts.Sym.{Sym}
-use Rattle.ath_sorts.specs.declared.sorts.Sort.{Sort, Var, Con}
+use Rattle.ath_sorts.specs.declared.sorts.Sort.{Sort, Var}
 use Rattle.ath_sorts.specs.Sorts.{same_svar, image, apply_to, occurs}
 use Rattle.ath_sorts.specs.Unifiers.{Unifies, same_sort, joined, vars_of, vars_read}
 use Rattle.ath_sorts.proofs.Bools.{bool_cases, either_of, either_to, true-not-false}
 use Rattle.ath_sorts.proofs.SameSorts.{same_sort-true, vars-var, vars-con}
 use Rattle.ath_sorts.proofs.SortLaws.{sort_induction, apply-var, apply-con, occurs-var, occurs-con, same_svar-true, same_svar-refl}
-use Rattle.ath_sorts.proofs.SubstitutionLaws.{apply-apply, apply-same}
+use Rattle.ath_sorts.proofs.SubstitutionLaws.{apply-apply}
 use Rattle.ath_unifiers.specs.Differences.{replaced}
 
 abbrev pub is_in : List SVar → SVar → Bool
@@ -100,9 +99,6 @@ module _ (v : SVar) (t : Sort) where
       by : (b : Bool) → same_svar v w ≡ b → apply_to f (cond b t (Var w)) ≡ f w
       by true e = sym h ∙ ap f (same_svar-true v w e)
       by false e = apply-var f w
-
-  abbrev behind : (SVar → Sort) → SVar → Sort
-  behind f w = apply_to f (image ((v, t) ∷ []) w)
 
   all_to : (f : SVar → Sort) (pairs : List (Sort × Sort)) → Unifies (λ w. apply_to f (image ((v, t) ∷ []) w)) pairs → Unifies f (replaced v t pairs)
   all_to f [] u = tt

@@ -1,8 +1,8 @@
 -- What the removal of differences comes to.
-use Rattle.std.proofs.Common.{◌≡◌, ℕ, zero, suc, ◌+◌, ◌<◌, ◌≤◌, Bool, true, false, cond, List, [], ◌∷◌, length, map, take, Option, Some, None, Result, Ok, Err, refl, sym, ◌∙◌, ap, subst, arith, ◌⊎◌, inl, inr}
+use Rattle.std.proofs.Common.{◌≡◌, ℕ, zero, suc, ◌+◌, ◌<◌, ◌≤◌, Bool, true, false, cond, List, [], ◌∷◌, length, take, Some, Result, Ok, Err, refl, sym, ◌∙◌, ap, subst, arith, ◌⊎◌, inl, inr}
 use Rattle.std.proofs.lemmas.Grind.{common_steps}
 use Rattle.ath_sorts.specs.declared.sorts.SVar.{SVar}
-use Rattle.ath_sorts.specs.declared.sorts.Sort.{Sort, Var, Con}
+use Rattle.ath_sorts.specs.declared.sorts.Sort.{Sort, Var}
 use Rattle.ath_sorts.specs.Sorts.{same_svar, image, apply_to, occurs}
 use Rattle.ath_sorts.specs.Substitutions.{entry_of, after}
 use Rattle.ath_sorts.specs.Unifiers.{Unifies, HasUnifier, IsClash, MovesAll}
@@ -11,7 +11,6 @@ use Rattle.ath_sorts.proofs.Gets.{length-map', some-inj, some-not-none}
 use Rattle.ath_sorts.proofs.SortLaws.{apply-var, occurs-var, Var-inj, same_svar-true, same_svar-refl}
 use Rattle.ath_sorts.proofs.SubstitutionLaws.{apply-apply, apply-same, image-after, var-from}
 use Rattle.ath_unifiers.specs.Differences.{Difference, none, binds, apart, search, replaced, with_binding, solve_step, solve}
-use Rattle.ath_unifiers.proofs.Compared.{IsBinding}
 use Rattle.ath_unifiers.proofs.Reading.{is_in, IsRead, removed, removed_in, shorter, put_same, unifies_to, unifies_from, unifies_all, unifies_back, unifies_first, read_from}
 use Rattle.ath_unifiers.proofs.Searching.{IsFound, unifies_shorter, unifies_take, search_finds}
 
@@ -31,9 +30,6 @@ pub record IsOrder (first : SVar → SVar → Bool) (read : List SVar) : Type 0 
   pub then : (a b c : SVar) → first a b ≡ true → first b c ≡ true → first a c ≡ true
   pub once : (a b : SVar) → first a b ≡ true → first b a ≡ true → ⊥
   pub total : (a b : SVar) → is_in read a ≡ true → is_in read b ≡ true → (a ≡ b → ⊥) → first a b ≡ false → first b a ≡ true
-
-take_all_of : (pairs : List (Sort × Sort)) (k : ℕ) (f : SVar → Sort) → Unifies f pairs → Unifies f (take k pairs)
-take_all_of pairs k f u = unifies_take f k pairs u
 
 next_is : (at : ℕ) → at + 1 ≡ suc at
 next_is at = omega arith
@@ -67,9 +63,6 @@ module _ (first : SVar → SVar → Bool) (read : List SVar) (order : IsOrder fi
   forced f u = found.says.forced f (unifies_take f (suc at) pairs u)
 
   module _ (s : List (SVar × Sort)) (h : IsSolved first (replaced v t pairs) s) where
-    abbrev whole : List (SVar × Sort)
-    whole = after s ((v, t) ∷ [])
-
     at_image : (w : SVar) → image (after s ((v, t) ∷ [])) w ≡ apply_to (image s) (image ((v, t) ∷ []) w)
     at_image w = image-after s ((v, t) ∷ []) w
 

@@ -43,12 +43,12 @@ compare_step first (one.Var v) (one.Con d args) = binding v (Con d args)
 compare_step first (one.Con c parts) (one.Var w) = binding w (Con c (map (λ p. p.0) parts))
 compare_step first (one.Con c parts) (one.Con d args) = if c.0 == d.0 then first_among (map (λ p. p.1) parts) args else apart
 
-abbrev pub compared_step : (SVar → SVar → Bool) → one.Sort-F Compared → Compared
-compared_step first (one.Var v) = (Var v, λ t. compare_step first (one.Var v) (out-Sort t))
-compared_step first (one.Con c parts) = (Con c (map (λ p. p.0) parts), λ t. compare_step first (one.Con c parts) (out-Sort t))
+abbrev pub whole : one.Sort-F Compared → Sort
+whole (one.Var v) = Var v
+whole (one.Con c parts) = Con c (map (λ p. p.0) parts)
 
 abbrev pub compared : (SVar → SVar → Bool) → Sort → Compared
-compared first = fold-Sort Compared (compared_step first)
+compared first = fold-Sort Compared (λ x. (whole x, λ t. compare_step first x (out-Sort t)))
 
 -- the first difference of two sorts, from the left
 abbrev pub difference : (SVar → SVar → Bool) → Sort → Sort → Difference

@@ -24,7 +24,7 @@ within_limits (Ok s) = if has_small_images s then solved s else too_large
 within_limits (Err at) = clashes at
 
 -- the least most general unifier of the pairs, by the removal of the first difference again and again, each of which takes away a variable
-abbrev pub unified : List (Sort × Sort) → Unified
+unfoldable pub unified : List (Sort × Sort) → Unified
 unified pairs = within_limits (solve (precedes (vars_read pairs)) (length (vars_read pairs)) pairs)
 
 -- the outcome is the least unifier, where it exists and its images are within the limits

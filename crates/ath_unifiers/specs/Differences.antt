@@ -1,4 +1,4 @@
--- Where sorts differ, and how a difference is removed.
+-- Where sorts differ, and how a difference is removed. The test `first v w` says whether the variable v stands before w.
 use Rattle.std.specs.Prelude.{ℕ, zero, suc, Bool, ◌==◌, List, [], ◌∷◌, map, Result, Ok, Err, if◌then◌else◌}
 use Rattle.ath_sorts.specs.declared.sorts.SVar.{SVar}
 use Rattle.ath_sorts.specs.declared.sorts.Sort.{Sort, Var, Con, out-Sort}
@@ -43,6 +43,7 @@ compare_step first (one.Var v) (one.Con d args) = binding v (Con d args)
 compare_step first (one.Con c parts) (one.Var w) = binding w (Con c (map (λ p. p.0) parts))
 compare_step first (one.Con c parts) (one.Con d args) = if c.0 == d.0 then first_among (map (λ p. p.1) parts) args else apart
 
+-- the sort that its parts make again
 abbrev pub whole : one.Sort-F Compared → Sort
 whole (one.Var v) = Var v
 whole (one.Con c parts) = Con c (map (λ p. p.0) parts)
@@ -78,7 +79,7 @@ solve_step go (at, none) = Ok []
 solve_step go (at, binds v t) = go v t
 solve_step go (at, apart) = Err at
 
--- the first difference is removed by a binding, and so on, at most n times; or there is none; or the place of the pair whose sides can't be made equal
+-- the first difference is removed by a binding, and so on; or there is none; or the place of the pair whose sides can't be made equal. Each binding takes a variable away from the pairs, so that n suffices where there are at most n
 abbrev pub solve : (SVar → SVar → Bool) → ℕ → List (Sort × Sort) → Result (List (SVar × Sort)) ℕ
 solve first zero pairs = solve_step (λ v t. Err 0) (search first pairs)
 solve first (suc n) pairs = solve_step (λ v t. with_binding v t (solve first n (replaced v t pairs))) (search first pairs)

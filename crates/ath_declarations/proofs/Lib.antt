@@ -1,0 +1,9 @@
+pub mod Names
+pub mod Places
+pub mod Parameters
+pub mod Meanings
+pub mod Taken
+pub mod Joins
+pub mod TextLaws
+pub mod Keeping
+pub mod Rows

@@ -1,0 +1,29 @@
+-- Laws of declarations.
+use Rattle.std.specs.Prelude.{◌≡◌, ℕ, List, Option, Some, Ok, IfSome}
+use Rattle.ath_sorts.specs.declared.signature.Symbol.{Symbol}
+use Rattle.ath_sorts.specs.declared.sorts.Sym.{Sym}
+use Rattle.ath_sorts.specs.Signature.{Signature, arity_of, symbol_of}
+use Rattle.ath_sorts.specs.Validity.{AreDistinct, IsValid}
+use Rattle.ath_syntax.specs.declared.node.SortText.{SortText}
+use Rattle.ath_declarations.specs.Declarations.{domain_declared, declared}
+
+-- what the one signature has, the other has too, with the same answer
+pub record Keeps (old new : Signature) : Type 0 where
+  pub sorts : (c : Sym) (n : ℕ) → arity_of old c ≡ Some n → arity_of new c ≡ Some n
+  pub symbols : (f : Sym) (s : Symbol) → symbol_of old f ≡ Some s → symbol_of new f ≡ Some s
+
+-- a domain keeps what was there
+abbrev pub DomainsKeep : Type 0
+DomainsKeep = (old new : Signature) (name : Sym) (vars : List Sym) → domain_declared old name vars ≡ Ok new → Keeps old new
+
+-- so do declared symbols
+abbrev pub SymbolsKeep : Type 0
+SymbolsKeep = (old new : Signature) (names : List Sym) (list : Option (List Sym)) (args : List SortText) (result : SortText) → declared old names list args result ≡ Ok new → Keeps old new
+
+-- a domain keeps a signature valid
+abbrev pub DomainsKeepValidity : Type 0
+DomainsKeepValidity = (old new : Signature) (name : Sym) (vars : List Sym) → IsValid old → domain_declared old name vars ≡ Ok new → IsValid new
+
+-- so do declared symbols, where the parameters that are listed differ
+abbrev pub SymbolsKeepValidity : Type 0
+SymbolsKeepValidity = (old new : Signature) (names : List Sym) (list : Option (List Sym)) (args : List SortText) (result : SortText) → IsValid old → IfSome list AreDistinct → declared old names list args result ≡ Ok new → IsValid new

@@ -1,0 +1,23 @@
+// Laws of declarations. Each function is a law: its contract, and no code.
+
+ghost use Rattle.ath_declarations.specs.Laws.{DomainsKeep, DomainsKeepValidity, SymbolsKeep, SymbolsKeepValidity};
+
+/// A domain keeps every sort and symbol that was there.
+pub fn domains_keep()
+    ensures { DomainsKeep }
+{}
+
+/// Declared symbols keep every sort and symbol that was there.
+pub fn symbols_keep()
+    ensures { SymbolsKeep }
+{}
+
+/// A domain keeps a signature valid.
+pub fn domains_keep_validity()
+    ensures { DomainsKeepValidity }
+{}
+
+/// Declared symbols keep a signature valid, where the parameters that are listed differ.
+pub fn symbols_keep_validity()
+    ensures { SymbolsKeepValidity }
+{}

@@ -1,8 +1,5 @@
 -- Names that join a signature, one after the other.
-use Rattle.std.proofs.Common.{◌≡◌, ℕ, ◌<◌, ◌+◌, ◌==◌, ◌||◌, not, Bool, true, false, List, [], ◌∷◌, ◌++◌, length, get_or, take, drop, Option, Some, None, Result, Ok, Err, is_some, is_ok, cond, refl, sym, ◌∙◌, ap, subst, add-one, drop-cons, nat_lt, arith, is_err}
-use Rattle.std.specs.List.{list_any}
-use Rattle.std.specs.Option.{option_copied}
-use Rattle.std.specs.Borrow.{Bor}
+use Rattle.std.proofs.Common.{◌≡◌, ℕ, ◌<◌, ◌+◌, ◌==◌, ◌||◌, Bool, true, false, List, [], ◌∷◌, ◌++◌, length, get_or, take, drop, Option, Some, None, Result, Ok, Err, is_some, is_ok, cond, refl, sym, ◌∙◌, ap, subst, add-one, drop-cons, nat_lt, arith, is_err}
 use Rattle.std.proofs.lemmas.List.{take_more}
 use Rattle.ath_sorts.specs.declared.limits.TheConstants.{MOST_WIDTH}
 use Rattle.ath_sorts.specs.declared.signature.SigError.{SigError}
@@ -115,6 +112,7 @@ module _ (params : List Sym) (args : List Sort) (result : Sort) where
       where
         rest : Result Signature SigError
         rest = joined (with_symbol sig (named n)) names params args result
+
         by : (b : Bool) → (is_some (symbol_of first n) || has_name seen n) ≡ b → Tells (first_taken first (seen ++ n ∷ []) names) rest → Tells (first_taken first seen (n ∷ names)) (unless (fault_if b (Redeclared n)) rest)
         by true e r = subst (λ b. Tells (cond b (Some n) (first_taken first (seen ++ n ∷ []) names)) (Err (Redeclared n))) (sym e) refl
         by false e r = subst (λ b. Tells (cond b (Some n) (first_taken first (seen ++ n ∷ []) names)) rest) (sym e) r

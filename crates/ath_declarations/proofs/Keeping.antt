@@ -1,21 +1,24 @@
 -- Declarations keep what was there, and keep a signature valid.
-use Rattle.std.proofs.Common.{◌≡◌, ℕ, ◌==◌, Bool, true, false, cond, List, [], ◌∷◌, ◌++◌, length, map, Option, Some, None, Result, Ok, Err, refl, sym, ◌∙◌, ap, subst}
+use Rattle.std.proofs.Common.{◌≡◌, ℕ, ◌==◌, Bool, true, false, cond, List, [], ◌∷◌, ◌++◌, length, map, Option, Some, None, Result, Ok, refl, subst}
 use Rattle.std.specs.Prelude.{IfSome}
 use Rattle.std.specs.List.{list_any, flat_map}
 use Rattle.ath_sorts.specs.declared.signature.SigError.{SigError}
 use Rattle.ath_sorts.specs.declared.signature.Symbol.{Symbol}
 use Rattle.ath_sorts.specs.declared.sorts.Sort.{Sort}
 use Rattle.ath_sorts.specs.declared.sorts.Sym.{Sym}
-use Rattle.ath_sorts.specs.Declaring.{domain_fault, symbol_fault, with_sort, with_symbol}
-use Rattle.ath_sorts.specs.Signature.{Signature, arity_among, symbol_among, arity_of, symbol_of}
+use Rattle.ath_sorts.specs.declared.signature.SigError.TheVariants.{SortTooLarge}
+use Rattle.ath_sorts.specs.Declaring.{use_fault, domain_fault, symbol_fault, with_sort, with_symbol}
+use Rattle.ath_sorts.specs.Limits.{is_small}
+use Rattle.ath_sorts.specs.Signature.{Signature, arity_among, symbol_among}
 use Rattle.ath_sorts.specs.Validity.{AreDistinct, has_made, IsValid}
 use Rattle.ath_sorts.proofs.ValidityLaws as law
 use Rattle.ath_syntax.specs.declared.node.SortText.{SortText}
 use Rattle.ath_declarations.specs.Declarations.{domain_declared, params_of, joined, declared}
-use Rattle.ath_declarations.specs.Laws.{Keeps}
-use Rattle.ath_declarations.specs.Texts.{sort_of, written_in, unless}
+use Rattle.ath_declarations.specs.Laws.{IsMeant, Keeps}
+use Rattle.ath_declarations.specs.Texts.{sort_of, written_in, unless, text_fault, meaning}
+use Rattle.ath_declarations.proofs.Joins.{first_none}
 use Rattle.ath_declarations.proofs.Names.{firsts_differ}
-use Rattle.ath_declarations.proofs.TextLaws.{spelled_none_made}
+use Rattle.ath_declarations.proofs.TextLaws.{none_made, spelled_none_made}
 
 unless_ok : {A : Type 0} (f : Option SigError) (o : Result A SigError) (x : A) → unless f o ≡ Ok x → (f ≡ None) × (o ≡ Ok x)
 unless_ok None o x h = (refl, h)
@@ -23,6 +26,19 @@ unless_ok (Some e) o x h = absurd (cc)
 
 ok_is : {A : Type 0} (x y : A) → ◌≡◌ {A = Result A SigError} (Ok x) (Ok y) → x ≡ y
 ok_is x y e = cc
+
+-- ---- what a text means
+no_limit : (b : Bool) (e : SigError) → cond b None (Some e) ≡ None → b ≡ true
+no_limit true e h = refl
+no_limit false e h = absurd (cc)
+
+pub meant_sort : (sig : Signature) (t : SortText) (s : Sort) → meaning sig t ≡ Ok s → IsMeant sig s
+meant_sort sig t s h =
+    let u = sort_of t in
+    let e = unless_ok (text_fault sig u) (Ok u) s h in
+    let a = first_none (use_fault sig (written_in u) u) (cond (is_small u) None (Some SortTooLarge) ∷ []) e.0 in
+    let b = first_none (cond (is_small u) None (Some SortTooLarge)) [] a.1 in
+    subst (IsMeant sig) (ok_is u s e.1) (record { there = a.0; small = no_limit (is_small u) SortTooLarge b.0; none_made = none_made t })
 
 -- ---- what was there
 found_still : {A : Type 0} (b : Bool) (x a : A) (o p : Option A) → (o ≡ Some a → p ≡ Some a) → cond b (Some x) o ≡ Some a → cond b (Some x) p ≡ Some a

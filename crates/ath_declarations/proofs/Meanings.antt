@@ -1,15 +1,15 @@
 -- What a sort text means, test by test.
-use Rattle.std.proofs.Common.{◌≡◌, Bool, true, false, ◌∷◌, [], Option, Some, None, Result, Ok, Err, cond, refl, sym, ◌∙◌, ap}
+use Rattle.std.proofs.Common.{◌≡◌, true, false, ◌∷◌, [], Some, None, Result, Ok, Err, cond, sym, ◌∙◌, ap}
 use Rattle.ath_sorts.specs.declared.signature.SigError.{SigError}
 use Rattle.ath_sorts.specs.declared.signature.SigError.TheVariants.{Redeclared, TooWide, UnknownSort, Arity, SortTooLarge, LooseParam, Memory}
 use Rattle.ath_sorts.specs.declared.sorts.Sort.{Sort}
-use Rattle.ath_sorts.specs.Declaring.{IsFault, first_fault, use_fault}
+use Rattle.ath_sorts.specs.Declaring.{first_fault}
 use Rattle.ath_sorts.specs.Limits.{is_small}
 use Rattle.ath_sorts.specs.Signature.{Signature}
 use Rattle.ath_syntax.specs.declared.node.SortText.{SortText}
 use Rattle.ath_declarations.specs.Outcomes.{MatchOutcome}
 use Rattle.ath_declarations.specs.Steps.{place_fault}
-use Rattle.ath_declarations.specs.Texts.{sort_of, written_in, unless, text_fault, meaning}
+use Rattle.ath_declarations.specs.Texts.{sort_of, unless, text_fault, meaning}
 use Rattle.ath_declarations.proofs.Places.{all_allowed}
 
 -- the answer of an error is that error

@@ -1,10 +1,10 @@
 -- Lists of names: each once.
-use Rattle.std.proofs.Common.{◌≡◌, ℕ, ◌==◌, ◌||◌, not, Bool, true, false, cond, List, [], ◌∷◌, ◌++◌, map, refl, sym, ◌∙◌, ap, append_assoc}
-use Rattle.std.specs.List.{list_any, filter, flat_map}
+use Rattle.std.proofs.Common.{◌≡◌, ◌==◌, ◌||◌, not, Bool, true, false, cond, List, [], ◌∷◌, ◌++◌, refl, sym, ◌∙◌, ap, append_assoc}
+use Rattle.std.specs.List.{filter}
 use Rattle.std.proofs.lemmas.List.Elements.{filter-append}
 use Rattle.ath_sorts.specs.declared.sorts.Sym.{Sym}
 use Rattle.ath_sorts.specs.Validity.{is_name_of, AreDistinct}
-use Rattle.ath_sorts.proofs.Bools.{turned, or_parts, or_false, or-false, same_num}
+use Rattle.ath_sorts.proofs.Bools.{turned, or_parts, or_false, same_num}
 use Rattle.ath_sorts.proofs.Gets.{append-none}
 use Rattle.ath_declarations.specs.Steps.{has_name, noting}
 use Rattle.ath_declarations.specs.Texts.{firsts}

@@ -1,5 +1,5 @@
 -- The first bad place of a sort, with and without a list of variables.
-use Rattle.std.proofs.Common.{◌≡◌, ℕ, ◌==◌, ◌&&◌, ◌||◌, Bool, true, false, cond, List, [], ◌∷◌, ◌++◌, map, Option, Some, None, refl, sym, ◌∙◌, ap}
+use Rattle.std.proofs.Common.{◌≡◌, ℕ, ◌==◌, ◌||◌, Bool, true, false, cond, List, [], ◌∷◌, ◌++◌, map, Option, Some, None, refl, sym, ◌∙◌, ap}
 use Rattle.std.specs.List.{list_any, list_all, flat_map, AllByRecursion}
 use Rattle.ath_sorts.specs.declared.signature.SigError.{SigError}
 use Rattle.ath_sorts.specs.declared.signature.SigError.TheVariants.{UnknownSort}
@@ -40,7 +40,7 @@ written_con c args = written-con c args ∙ same-flat args
 use-var : (sig : Signature) (params : List Sym) (v : SVar) → use_fault sig params (Var v) ≡ use_step sig params (one.Var v)
 use-var sig params v = ap (use_fault sig params) (sym (rolls-Var v)) ∙ fold-roll-Sort (Option SigError) (use_step sig params) (one.Var v)
 
-use-con : (sig : Signature) (params : List Sym) (c : Sym) (args : List Sort) → use_fault sig params (Con c args) ≡ constructor_fault (arity_of sig c) c (map (use_fault sig params) args)
+pub use-con : (sig : Signature) (params : List Sym) (c : Sym) (args : List Sort) → use_fault sig params (Con c args) ≡ constructor_fault (arity_of sig c) c (map (use_fault sig params) args)
 use-con sig params c args = ap (use_fault sig params) (sym (rolls-Con c args)) ∙ fold-roll-Sort (Option SigError) (use_step sig params) (one.Con c args)
 
 place-var : (sig : Signature) (list : Option (List Sym)) (v : SVar) → place_fault sig list (Var v) ≡ place_step sig list (one.Var v)

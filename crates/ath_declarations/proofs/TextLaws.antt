@@ -1,5 +1,5 @@
 -- What a text spells, form by form.
-use Rattle.std.proofs.Common.{◌≡◌, ℕ, Bool, false, ◌||◌, List, [], ◌∷◌, ◌++◌, map, refl, sym, ◌∙◌, ap, subst}
+use Rattle.std.proofs.Common.{◌≡◌, Bool, false, List, [], ◌∷◌, ◌++◌, map, refl, sym, ◌∙◌, ap, subst}
 use Rattle.std.specs.List.{list_any, AllByRecursion}
 use Rattle.ath_sorts.specs.declared.sorts.Sym.{Sym}
 use Rattle.ath_sorts.specs.declared.sorts.SVar.{SVar}
@@ -53,7 +53,7 @@ none_in : (args : List SortText) → AllByRecursion HasNoneMade args → list_an
 none_in [] a = refl
 none_in (t ∷ ts) a = or_false (has_made (sort_of t)) (list_any (λ b. b) (map has_made (map sort_of ts))) a.0 (none_in ts a.1)
 
-none_made : (t : SortText) → has_made (sort_of t) ≡ false
+pub none_made : (t : SortText) → has_made (sort_of t) ≡ false
 none_made = text_induction HasNoneMade
     (λ c. ap has_made (name_is c) ∙ made-con c [])
     (λ p. ap has_made (variable_is p) ∙ made-var (Written p))

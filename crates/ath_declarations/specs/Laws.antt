@@ -1,16 +1,29 @@
 -- Laws of declarations.
-use Rattle.std.specs.Prelude.{◌≡◌, ℕ, List, Option, Some, Ok, IfSome}
+use Rattle.std.specs.Prelude.{◌≡◌, ℕ, true, false, List, Option, Some, None, Ok, IfSome}
 use Rattle.ath_sorts.specs.declared.signature.Symbol.{Symbol}
+use Rattle.ath_sorts.specs.declared.sorts.Sort.{Sort}
 use Rattle.ath_sorts.specs.declared.sorts.Sym.{Sym}
+use Rattle.ath_sorts.specs.Declaring.{use_fault}
+use Rattle.ath_sorts.specs.Limits.{is_small}
 use Rattle.ath_sorts.specs.Signature.{Signature, arity_of, symbol_of}
-use Rattle.ath_sorts.specs.Validity.{AreDistinct, IsValid}
+use Rattle.ath_sorts.specs.Validity.{AreDistinct, has_made, IsValid}
 use Rattle.ath_syntax.specs.declared.node.SortText.{SortText}
 use Rattle.ath_declarations.specs.Declarations.{domain_declared, declared}
+use Rattle.ath_declarations.specs.Texts.{written_in, meaning}
 
 -- what the one signature has, the other has too, with the same answer
 pub record Keeps (old new : Signature) : Type 0 where
   pub sorts : (c : Sym) (n : ℕ) → arity_of old c ≡ Some n → arity_of new c ≡ Some n
   pub symbols : (f : Sym) (s : Symbol) → symbol_of old f ≡ Some s → symbol_of new f ≡ Some s
+
+-- a sort that a text means has its constructors at their arities and is within the limits, and none of its variables was made
+pub record IsMeant (sig : Signature) (s : Sort) : Type 0 where
+  pub there : use_fault sig (written_in s) s ≡ None
+  pub small : is_small s ≡ true
+  pub none_made : has_made s ≡ false
+
+abbrev pub TextsMeanSorts : Type 0
+TextsMeanSorts = (sig : Signature) (text : SortText) (s : Sort) → meaning sig text ≡ Ok s → IsMeant sig s
 
 -- a domain keeps what was there
 abbrev pub DomainsKeep : Type 0

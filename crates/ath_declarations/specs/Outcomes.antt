@@ -1,8 +1,7 @@
 -- When an answer is that of an outcome.
-use Rattle.std.specs.Prelude.{◌≡◌, ℕ, Bool, true, is_ok, List, take, Option, Result, Ok, Err}
+use Rattle.std.specs.Prelude.{◌≡◌, ℕ, List, take, Option, Result, Ok, Err}
 use Rattle.ath_sorts.specs.declared.signature.SigError.{SigError}
 use Rattle.ath_sorts.specs.declared.signature.SigError.TheVariants.{Memory}
-use Rattle.ath_sorts.specs.declared.sorts.Sort.{Sort}
 use Rattle.ath_sorts.specs.declared.sorts.Sym.{Sym}
 use Rattle.ath_sorts.specs.Signature.{Signature}
 use Rattle.ath_syntax.specs.declared.node.SortText.{SortText}

@@ -87,12 +87,7 @@ fn spelled_all(alloc: Global, texts: &[SortText]) -> Result<Vec<Sort>, AllocErro
 }
 
 /// Tests all names before the first is added. The tests that don't speak of the name are those of the first.
-fn check_names(
-    alloc: Global,
-    sig: &Signature,
-    names: &[Sym],
-    shape: &Shape,
-) -> Result<(), SigError>
+fn check_names(alloc: Global, sig: &Signature, names: &[Sym], shape: &Shape) -> Result<(), SigError>
     ensures { MatchTest (joined sig.now names.now shape.now.params.items shape.now.args.items shape.now.result) result }
 {
     if names.is_empty() {

@@ -1,6 +1,12 @@
 // Laws of declarations. Each function is a law: its contract, and no code.
 
-ghost use Rattle.ath_declarations.specs.Laws.{DomainsKeep, DomainsKeepValidity, SymbolsKeep, SymbolsKeepValidity};
+ghost use Rattle.ath_declarations.specs.Laws.{DomainsKeep, DomainsKeepValidity, SymbolsKeep, SymbolsKeepValidity, TextsMeanSorts};
+
+/// A sort that a text means has its constructors at their arities and is within the limits, and none of its variables was
+/// made.
+pub fn texts_mean_sorts()
+    ensures { TextsMeanSorts }
+{}
 
 /// A domain keeps every sort and symbol that was there.
 pub fn domains_keep()

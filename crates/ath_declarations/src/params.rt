@@ -33,11 +33,7 @@ pub(crate) fn params_over(
 }
 
 /// The written variables of these sorts, each once, in order of first occurrence.
-fn written_over(
-    alloc: Global,
-    args: &[Sort],
-    result_sort: &Sort,
-) -> Result<Vec<Sym>, AllocError>
+fn written_over(alloc: Global, args: &[Sort], result_sort: &Sort) -> Result<Vec<Sym>, AllocError>
     ensures { IfOk result (λ ps. ps.items ≡ params_of None (args.now ++ result_sort.now ∷ [])) }
 {
     let mut seen: IndexSet<Sym> = IndexSet::new(alloc);

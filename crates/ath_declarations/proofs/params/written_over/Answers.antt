@@ -1,4 +1,4 @@
-use Rattle.std.proofs.Common.{◌∙◌, sym, ap, arith}
+use Rattle.std.proofs.Common.{◌∙◌, ap}
 use Rattle.ath_declarations.specs.Steps.{noting}
 use Rattle.ath_declarations.specs.Texts.{written_in}
 use Rattle.ath_declarations.proofs.Parameters.{notes_next, notes_all, noting_last}

@@ -12,7 +12,7 @@ use Rattle.ath_sorts.specs.Declaring.{MatchFault, first_fault, fault_if, use_fau
 use Rattle.ath_sorts.proofs.Bools.{turned, or-false}
 use Rattle.ath_sorts.proofs.ValidityLaws.{uses_kept}
 use Rattle.ath_declarations.specs.Declarations.{joined}
-use Rattle.ath_declarations.specs.Steps.{has_name, first_taken, HasSome, MatchTest}
+use Rattle.ath_declarations.specs.Steps.{has_name, first_taken, MatchTest}
 use Rattle.ath_declarations.specs.Texts.{unless}
 
 -- ---- a symbol that isn't refused
@@ -162,9 +162,6 @@ module _ (params : List Sym) (args : List Sort) (result : Sort) where
       done = ap (λ ns. joined old ns params args result) (take_more names k d lt) ∙ joined_last (take k names) old sig here j.done f;
       rest = sym (ap (λ f. unless f (joined (with_symbol sig (named here)) (drop (k + 1) names) params args result)) f) ∙ sym unfolded ∙ j.rest;
     })
-
-  pub begun : (old : Signature) (names : List Sym) (k : ℕ) (sig new : Signature) → new ≡ sig → JoinsTo old names k sig → HasSome old new names params args result
-  begun old names k sig new e j = record { count = k; after = j.done ∙ ap Ok (sym e) }
 
 -- what a symbol that was added tells
 pub added_by : (a : Result (Unit {0}) SigError) (f : Option SigError) (new grown sig : Signature) → is_err a ≡ false → MatchFault f a → new ≡ cond (is_ok a) grown sig → (f ≡ None) × (new ≡ grown)

@@ -20,7 +20,7 @@ pub first_none : (f : Option SigError) (fs : List (Option SigError)) → first_f
 first_none None fs h = (refl, h)
 first_none (Some e) fs h = absurd (cc)
 
-no_fault : (b : Bool) (e : SigError) → fault_if b e ≡ None → b ≡ false
+pub no_fault : (b : Bool) (e : SigError) → fault_if b e ≡ None → b ≡ false
 no_fault true e h = absurd (cc)
 no_fault false e h = refl
 
@@ -49,6 +49,9 @@ module _ (params : List Sym) (args : List Sort) (result : Sort) where
       let d = first_none large (loose_faults sorts params ∷ []) c.1 in
       let f = first_none (loose_faults sorts params) [] d.1 in
       record { width = no_fault wide (TooWide n) b.0; uses = c.0; size = d.0; loose = f.0 }
+
+  pub name_free : (sig : Signature) (n : Sym) → symbol_fault sig n params args result ≡ None → is_some (symbol_of sig n) ≡ false
+  name_free sig n h = no_fault (is_some (symbol_of sig n)) (Redeclared n) (first_none (fault_if (is_some (symbol_of sig n)) (Redeclared n)) (fault_if wide (TooWide n) ∷ use_faults sig params sorts ∷ large ∷ loose_faults sorts params ∷ []) h).0
 
   abbrev named : Sym → Symbol
   named n = record { name = n; params = params; args = args; result = result }

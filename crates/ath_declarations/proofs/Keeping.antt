@@ -1,22 +1,24 @@
--- Declarations keep what was there, and keep a signature valid.
-use Rattle.std.proofs.Common.{◌≡◌, ℕ, ◌==◌, Bool, true, false, cond, List, [], ◌∷◌, ◌++◌, length, map, Option, Some, None, Result, Ok, refl, subst}
+-- What is declared is there, what was there stays, and a signature stays valid.
+use Rattle.std.proofs.Common.{◌≡◌, ℕ, ◌==◌, Bool, true, false, cond, List, [], ◌∷◌, ◌++◌, length, map, Option, Some, None, is_some, nat_lt, Result, Ok, refl, sym, ◌∙◌, ap, subst}
 use Rattle.std.specs.Prelude.{IfSome}
-use Rattle.std.specs.List.{list_any, flat_map}
+use Rattle.std.specs.List.{list_any, flat_map, AllByRecursion}
 use Rattle.ath_sorts.specs.declared.signature.SigError.{SigError}
 use Rattle.ath_sorts.specs.declared.signature.Symbol.{Symbol}
 use Rattle.ath_sorts.specs.declared.sorts.Sort.{Sort}
 use Rattle.ath_sorts.specs.declared.sorts.Sym.{Sym}
-use Rattle.ath_sorts.specs.declared.signature.SigError.TheVariants.{SortTooLarge}
-use Rattle.ath_sorts.specs.Declaring.{use_fault, domain_fault, symbol_fault, with_sort, with_symbol}
+use Rattle.ath_sorts.specs.declared.signature.SigError.TheVariants.{Redeclared, TooWide, SortTooLarge}
+use Rattle.ath_sorts.specs.declared.limits.TheConstants.{MOST_WIDTH}
+use Rattle.ath_sorts.specs.Declaring.{fault_if, use_fault, domain_fault, symbol_fault, with_sort, with_symbol}
 use Rattle.ath_sorts.specs.Limits.{is_small}
-use Rattle.ath_sorts.specs.Signature.{Signature, arity_among, symbol_among}
+use Rattle.ath_sorts.specs.Signature.{Signature, arity_among, symbol_among, arity_of, symbol_of}
 use Rattle.ath_sorts.specs.Validity.{AreDistinct, has_made, IsValid}
+use Rattle.ath_sorts.proofs.Bools.{true-not-false, num_same}
 use Rattle.ath_sorts.proofs.ValidityLaws as law
 use Rattle.ath_syntax.specs.declared.node.SortText.{SortText}
 use Rattle.ath_declarations.specs.Declarations.{domain_declared, params_of, joined, declared}
-use Rattle.ath_declarations.specs.Laws.{IsMeant, Keeps}
+use Rattle.ath_declarations.specs.Laws.{IsMeant, IsThere, Keeps}
 use Rattle.ath_declarations.specs.Texts.{sort_of, written_in, unless, text_fault, meaning}
-use Rattle.ath_declarations.proofs.Joins.{first_none}
+use Rattle.ath_declarations.proofs.Joins.{first_none, no_fault, name_free}
 use Rattle.ath_declarations.proofs.Names.{firsts_differ}
 use Rattle.ath_declarations.proofs.TextLaws.{none_made, spelled_none_made}
 
@@ -64,6 +66,29 @@ domain_keeps old new name vars h =
     let e = unless_ok (domain_fault old name (length vars)) (Ok (with_sort old name (length vars))) new h in
     subst (Keeps old) (ok_is _ _ e.1) (record { sorts = λ c n k. arity_still old.sorts (name, length vars) c n k; symbols = λ f s k. k })
 
+-- ---- what is new
+arity_new : (es : List (Sym × ℕ)) (n : Sym) (k : ℕ) → is_some (arity_among es n) ≡ false → arity_among (es ++ (n, k) ∷ []) n ≡ Some k
+arity_new [] n k h = ap (λ b. cond b (Some k) None) (num_same n.0)
+arity_new (e ∷ es) n k h = by (e.0.0 == n.0) h (arity_new es n k)
+  where
+    by : (b : Bool) → is_some (cond b (Some e.1) (arity_among es n)) ≡ false → (is_some (arity_among es n) ≡ false → arity_among (es ++ (n, k) ∷ []) n ≡ Some k) → cond b (Some e.1) (arity_among (es ++ (n, k) ∷ []) n) ≡ Some k
+    by true h r = absurd (true-not-false h)
+    by false h r = r h
+
+symbol_new : (ss : List Symbol) (t : Symbol) → is_some (symbol_among ss t.name) ≡ false → symbol_among (ss ++ t ∷ []) t.name ≡ Some t
+symbol_new [] t h = ap (λ b. cond b (Some t) None) (num_same t.name.0)
+symbol_new (s ∷ ss) t h = by (s.name.0 == t.name.0) h (symbol_new ss t)
+  where
+    by : (b : Bool) → is_some (cond b (Some s) (symbol_among ss t.name)) ≡ false → (is_some (symbol_among ss t.name) ≡ false → symbol_among (ss ++ t ∷ []) t.name ≡ Some t) → cond b (Some s) (symbol_among (ss ++ t ∷ []) t.name) ≡ Some t
+    by true h r = absurd (true-not-false h)
+    by false h r = r h
+
+pub domain_there : (old new : Signature) (name : Sym) (vars : List Sym) → domain_declared old name vars ≡ Ok new → arity_of new name ≡ Some (length vars)
+domain_there old new name vars h =
+    let e = unless_ok (domain_fault old name (length vars)) (Ok (with_sort old name (length vars))) new h in
+    let a = first_none (fault_if (is_some (arity_of old name)) (Redeclared name)) (fault_if (nat_lt MOST_WIDTH (length vars)) (TooWide name) ∷ []) e.0 in
+    ap (λ (s : Signature). arity_of s name) (sym (ok_is _ _ e.1)) ∙ arity_new old.sorts name (length vars) (no_fault (is_some (arity_of old name)) (Redeclared name) a.0)
+
 module _ (params : List Sym) (args : List Sort) (result : Sort) where
   abbrev named : Sym → Symbol
   named n = record { name = n; params = params; args = args; result = result }
@@ -76,6 +101,13 @@ module _ (params : List Sym) (args : List Sort) (result : Sort) where
       (record { sorts = λ c n k. k; symbols = λ f s k. symbol_still old.symbols (named n) f s k })
       (joined_keeps names (with_symbol old (named n)) new e.1)
 
+  joined_there : (names : List Sym) (old new : Signature) → joined old names params args result ≡ Ok new → AllByRecursion (λ n. symbol_of new n ≡ Some (named n)) names
+  joined_there [] old new h = tt
+  joined_there (n ∷ names) old new h =
+      let e = unless_ok (symbol_fault old n params args result) (joined (with_symbol old (named n)) names params args result) new h in
+      let k = joined_keeps names (with_symbol old (named n)) new e.1 in
+      (k.symbols n (named n) (symbol_new old.symbols (named n) (name_free params args result old n e.0)), joined_there names (with_symbol old (named n)) new e.1)
+
   joined_valid : (names : List Sym) (old new : Signature) → AreDistinct params → list_any has_made (args ++ result ∷ []) ≡ false → IsValid old → joined old names params args result ≡ Ok new → IsValid new
   joined_valid [] old new d w v h = subst IsValid (ok_is old new h) v
   joined_valid (n ∷ names) old new d w v h =
@@ -84,6 +116,9 @@ module _ (params : List Sym) (args : List Sort) (result : Sort) where
 
 pub symbols_keep : (old new : Signature) (names : List Sym) (list : Option (List Sym)) (args : List SortText) (result : SortText) → declared old names list args result ≡ Ok new → Keeps old new
 symbols_keep old new names list args result h = joined_keeps (params_of list (map sort_of args ++ sort_of result ∷ [])) (map sort_of args) (sort_of result) names old new h
+
+pub symbols_there : (old new : Signature) (names : List Sym) (list : Option (List Sym)) (args : List SortText) (result : SortText) → declared old names list args result ≡ Ok new → AllByRecursion (IsThere new list args result) names
+symbols_there old new names list args result h = joined_there (params_of list (map sort_of args ++ sort_of result ∷ [])) (map sort_of args) (sort_of result) names old new h
 
 -- ---- validity
 pub domain_valid : (old new : Signature) (name : Sym) (vars : List Sym) → IsValid old → domain_declared old name vars ≡ Ok new → IsValid new

@@ -1,5 +1,6 @@
 -- Laws of declarations.
-use Rattle.std.specs.Prelude.{◌≡◌, ℕ, true, false, List, Option, Some, None, Ok, IfSome}
+use Rattle.std.specs.Prelude.{◌≡◌, ℕ, true, false, List, [], ◌∷◌, ◌++◌, length, map, Option, Some, None, Ok, IfSome}
+use Rattle.std.specs.List.{AllByRecursion}
 use Rattle.ath_sorts.specs.declared.signature.Symbol.{Symbol}
 use Rattle.ath_sorts.specs.declared.sorts.Sort.{Sort}
 use Rattle.ath_sorts.specs.declared.sorts.Sym.{Sym}
@@ -8,8 +9,8 @@ use Rattle.ath_sorts.specs.Limits.{is_small}
 use Rattle.ath_sorts.specs.Signature.{Signature, arity_of, symbol_of}
 use Rattle.ath_sorts.specs.Validity.{AreDistinct, has_made, IsValid}
 use Rattle.ath_syntax.specs.declared.node.SortText.{SortText}
-use Rattle.ath_declarations.specs.Declarations.{domain_declared, declared}
-use Rattle.ath_declarations.specs.Texts.{written_in, meaning}
+use Rattle.ath_declarations.specs.Declarations.{domain_declared, params_of, declared}
+use Rattle.ath_declarations.specs.Texts.{sort_of, written_in, meaning}
 
 -- what the one signature has, the other has too, with the same answer
 pub record Keeps (old new : Signature) : Type 0 where
@@ -24,6 +25,20 @@ pub record IsMeant (sig : Signature) (s : Sort) : Type 0 where
 
 abbrev pub TextsMeanSorts : Type 0
 TextsMeanSorts = (sig : Signature) (text : SortText) (s : Sort) → meaning sig text ≡ Ok s → IsMeant sig s
+
+-- a domain that isn't refused is there, with an argument for each variable of its header
+abbrev pub DomainsAreThere : Type 0
+DomainsAreThere = (old new : Signature) (name : Sym) (vars : List Sym) → domain_declared old name vars ≡ Ok new → arity_of new name ≡ Some (length vars)
+
+-- so is each symbol, with its parameters and the sorts that its texts spell
+abbrev pub IsThere : Signature → Option (List Sym) → List SortText → SortText → Sym → Type 0
+IsThere sig list args result n =
+    let sorts = map sort_of args in
+    let sort = sort_of result in
+    symbol_of sig n ≡ Some (record { name = n; params = params_of list (sorts ++ sort ∷ []); args = sorts; result = sort })
+
+abbrev pub SymbolsAreThere : Type 0
+SymbolsAreThere = (old new : Signature) (names : List Sym) (list : Option (List Sym)) (args : List SortText) (result : SortText) → declared old names list args result ≡ Ok new → AllByRecursion (IsThere new list args result) names
 
 -- a domain keeps what was there
 abbrev pub DomainsKeep : Type 0

@@ -1,11 +1,21 @@
 // Laws of declarations. Each function is a law: its contract, and no code.
 
-ghost use Rattle.ath_declarations.specs.Laws.{DomainsKeep, DomainsKeepValidity, SymbolsKeep, SymbolsKeepValidity, TextsMeanSorts};
+ghost use Rattle.ath_declarations.specs.Laws.{DomainsAreThere, DomainsKeep, DomainsKeepValidity, SymbolsAreThere, SymbolsKeep, SymbolsKeepValidity, TextsMeanSorts};
 
 /// A sort that a text means has its constructors at their arities and is within the limits, and none of its variables was
 /// made.
 pub fn texts_mean_sorts()
     ensures { TextsMeanSorts }
+{}
+
+/// A domain that isn't refused is there, with an argument for each variable of its header.
+pub fn domains_are_there()
+    ensures { DomainsAreThere }
+{}
+
+/// Declared symbols that aren't refused are there, with their parameters and the sorts that their texts spell.
+pub fn symbols_are_there()
+    ensures { SymbolsAreThere }
 {}
 
 /// A domain keeps every sort and symbol that was there.

@@ -137,10 +137,6 @@ module _ (params : List Sym) (args : List Sort) (result : Sort) where
     pub done : joined old (take k names) params args result ≡ Ok sig
     pub rest : joined sig (drop k names) params args result ≡ joined old names params args result
 
-  unless_none : {A : Type 0} (f : Option SigError) (o : Result A SigError) → is_ok (unless f o) ≡ true → f ≡ None
-  unless_none None o h = refl
-  unless_none (Some e) o h = absurd (cc)
-
   joined_last : (names : List Sym) (old sig : Signature) (n : Sym) → joined old names params args result ≡ Ok sig → symbol_fault sig n params args result ≡ None → joined old (names ++ n ∷ []) params args result ≡ Ok (with_symbol sig (named n))
   joined_last [] old sig n e f =
       let s : old ≡ sig = cc in

@@ -3,9 +3,9 @@
 
 mod exit;
 
-ghost use Rattle.std.specs.Prelude.{◌≡◌, None, map, string_bytes};
+ghost use Rattle.std.specs.Prelude.{◌≡◌, ◌⊎◌, None, map, string_bytes};
 ghost use Rattle.ath_words.specs.Words.{run_of};
-ghost use Rattle.ath_session.specs.declared.status.Status.TheVariants.{Usage};
+ghost use Rattle.ath_session.specs.declared.status.Status.TheVariants.{Usage, Memory};
 
 use crate::exit::{exit_number, number_without_words};
 use ath_io::{DirShelf, OutSink};
@@ -35,7 +35,8 @@ fn words(rt: &(impl Env + AllocGlobal)) -> io::Result<Vec<String>> {
 
 /// Runs the words over the files and standard output; a usage fault is told on standard error.
 fn run(rt: &HostRuntime, words: &Vec<String>) -> Status
-    ensures { result ≡ Usage → run_of (map string_bytes words.now.items) ≡ None }
+    ensures usage { result ≡ Usage → run_of (map string_bytes words.now.items) ≡ None }
+    ensures no_run { run_of (map string_bytes words.now.items) ≡ None → (result ≡ Usage ⊎ result ≡ Memory) }
 {
     let mut shelf = DirShelf::new(rt);
     let mut sink = OutSink::new(rt.stdout());

@@ -9,5 +9,6 @@ mod Numbered
 pub mod OneNext
 mod ProperRead
 mod Seen
+pub mod SomeNext
 mod Turned
 mod Viewed

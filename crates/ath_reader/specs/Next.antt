@@ -1,12 +1,9 @@
 -- What is next in a text: one directive, none, or one refusal.
-use Rattle.std.specs.Prelude.{◌≡◌, ℕ, List, length, Option, Some, None, Result, Ok, Err, ◌⊎◌}
-use Rattle.ath_syntax.specs.declared.directive.Directive.{Directive}
-use Rattle.ath_syntax.specs.Nodes as syntax
-use Rattle.ath_syntax.specs.Stands.{IsDirective}
+use Rattle.std.specs.Prelude.{◌≡◌, ℕ, List}
 use Rattle.ath_syntax.specs.Tree.{DirectiveTree}
 use Rattle.ath_reader.specs.declared.reader.SyntaxError.{SyntaxError}
 use Rattle.ath_reader.specs.Ahead.{the_end, ahead, names_past}
-use Rattle.ath_reader.specs.Reading.{Progress, reached, refused, Reading, Front, IsWhole, Refuses, Wants}
+use Rattle.ath_reader.specs.Reading.{Progress, reached, refused, Reading, Front, IsWhole, Refuses}
 
 pub data Next : Type 0 where
   -- a directive, the byte behind its tokens, and the names after it
@@ -34,25 +31,11 @@ IsNext r names from (stopped e names') = Refuses r names from e names'
 abbrev pub OneNext : Type 0
 OneNext = (r : Reading) (names : List (List ℕ)) (from : ℕ) (a b : Next) → IsNext r names from a → IsNext r names from b → a ≡ b
 
+-- from each byte on, something is next
+abbrev pub SomeNext : Type 0
+SomeNext = (r : Reading) (names : List (List ℕ)) (from : ℕ) → (n : Next) × IsNext r names from n
+
 -- the byte that is reached, where there is no refusal
 abbrev pub byte_reached : Progress → ℕ
 byte_reached (reached byte) = byte
 byte_reached (refused e) = 0
-
--- What a reader answers from a byte on, by what is next there: it is what `Answers` says.
-abbrev pub AnswersNext
-    : Reading → ℕ → List (List ℕ) → syntax.Nodes → Result (Option Directive) SyntaxError → Reading → List (List ℕ) → syntax.Nodes → Type 0
-AnswersNext r from names s (Ok None) new names' s' =
-    IsNext r names from ended
-    × (new ≡ record r { progress = reached (length r.text) })
-    × (names' ≡ names)
-    × (s' ≡ s)
-AnswersNext r from names s (Ok (Some d)) new names' s' =
-    (t : DirectiveTree) × (to : ℕ)
-    × IsDirective s' d t
-    × IsNext r names from (whole t to names')
-    × syntax.Grows s s'
-    × (new ≡ record r { progress = reached to })
-AnswersNext r from names s (Err e) new names' s' =
-    (Wants e names names' s s' ⊎ (IsNext r names from (stopped e names') × (s' ≡ s)))
-    × (new ≡ record r { progress = refused e })

@@ -25,7 +25,7 @@ use Rattle.ath_session.specs.declared.status.Status.{Status}
 use Rattle.ath_session.specs.declared.status.Status.TheVariants.{Clean, Errors, Usage, Fuel, SourceFault, SinkFault, Memory}
 use Rattle.ath_session.specs.declared.desk.Flow.{Flow}
 use Rattle.ath_session.specs.declared.desk.Flow.TheVariants.{On, End}
-use Rattle.ath_session.specs.Run.{Item, asks, tells, Configuration, Move, goes, halts, items_of, Halt, all_run, out_of_fuel, said, reading_of, most_asked, most_bytes, fetched, asking}
+use Rattle.ath_session.specs.Run.{Item, asks, tells, Configuration, Move, goes, halts, items_of, Halt, out_of_fuel, said, reading_of, most_asked, most_bytes, fetched, asking}
 use Rattle.ath_session.specs.Report.{names_in, lines_in, is_error, has_error}
 use Rattle.ath_session.specs.Ends.{Outside, after_items, after_part}
 use Rattle.ath_session.specs.Steps.{Ended, Did, IsOpened}

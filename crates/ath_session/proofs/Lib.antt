@@ -2,6 +2,7 @@ pub mod AdvanceLaws
 pub mod BuiltLaws
 pub mod Declares
 pub mod DeskLaws
+pub mod Existence
 pub mod MoveLaws
 pub mod PlainLines
 pub mod PlainNames

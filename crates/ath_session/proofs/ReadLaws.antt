@@ -1,5 +1,5 @@
 -- What a text that is read on does.
-use Rattle.std.proofs.Common.{◌≡◌, ◌⊎◌, inl, inr, ℕ, ◌+◌, ◌<◌, ◌≤◌, ◌-◌, Bool, false, List, [], ◌∷◌, ◌++◌, length, reverse, Option, Result, Ok, Err, refl, sym, ◌∙◌, ap, subst, arith, if◌then◌else◌}
+use Rattle.std.proofs.Common.{◌≡◌, ◌⊎◌, inl, inr, ℕ, ◌-◌, Bool, false, List, [], ◌∷◌, ◌++◌, length, reverse, Option, Result, Ok, Err, refl, sym, ◌∙◌, ap, subst, arith, if◌then◌else◌}
 use Rattle.std.specs.Result.{is_ok, is_err}
 use Rattle.std.proofs.lemmas.List.{length-reverse, length-append, reverse-append}
 use Rattle.std.proofs.Math.Bool.{or-false}
@@ -49,9 +49,6 @@ pub around : (rs : List Reading) (r : Reading) → length (rs ++ r ∷ []) - 1 �
 around rs r = let e = length-append rs (r ∷ []) in let f = length-reverse rs in omega arith
 
 module _ (texts : List (List ℕ × List ℕ)) (c : Configuration) (r : Reading) (from : ℕ) (at : r.progress ≡ reached from) where
-  pub some_move : (n : Next) → IsNext r c.state.names from n → (m : Move) × Moves texts (record c { stack = r ∷ c.stack }) m
-  some_move n h = (turned texts (record c { stack = r ∷ c.stack }) r c.stack n, (n, subst (λ (b : ℕ). IsNext r c.state.names b n) (sym (ap byte_reached at)) h, refl))
-
   module _ (one : OneNext) (m : Move) (moves : Moves texts (record c { stack = r ∷ c.stack }) m) where
     move_is : (n : Next) → IsNext r c.state.names from n → m ≡ turned texts (record c { stack = r ∷ c.stack }) r c.stack n
     move_is n h = moves.2 ∙ ap (turned texts (record c { stack = r ∷ c.stack }) r c.stack) (one r c.state.names from moves.0 n (subst (λ (b : ℕ). IsNext r c.state.names b moves.0) (ap byte_reached at) moves.1) h)

@@ -1,25 +1,25 @@
 -- A whole run, as steps of it that are done.
-use Rattle.std.proofs.Common.{◌≡◌, ◌≢◌, ℕ, ◌<◌, arith, Bool, true, false, ◌||◌, List, [], ◌∷◌, ◌++◌, append_assoc, append-nil, Option, Some, None, ◌⊎◌, inl, inr, refl, sym, ◌∙◌, ap, ap₂, subst}
+use Rattle.std.proofs.Common.{◌≡◌, ◌≢◌, ℕ, ◌<◌, arith, Bool, false, ◌||◌, List, [], ◌∷◌, ◌++◌, append_assoc, append-nil, Option, Some, None, refl, sym, ◌∙◌, ap, subst}
 use Rattle.std.specs.Prelude.{take, drop, map, reverse, string_bytes, if◌then◌else◌}
 use Rattle.std.proofs.lemmas.List.Folds.{list_any-append}
-use Rattle.ath_words.specs.Words.{Asked, run_of}
+use Rattle.ath_words.specs.Words.{Asked}
 use Rattle.ath_io.specs.Shelf.{Texts, with_asked}
-use Rattle.ath_reader.specs.Next.{OneNext}
-use Rattle.ath_session.specs.declared.desk.Flow.{Flow}
-use Rattle.ath_session.specs.declared.desk.Flow.TheVariants.{On, End}
+use Rattle.ath_reader.proofs.OneNext.{one_next}
+use Rattle.ath_session.specs.declared.desk.Flow.TheVariants.{On}
 use Rattle.ath_session.specs.declared.status.Status.{Status}
 use Rattle.ath_session.specs.declared.status.Status.TheVariants.{Clean, Errors, Usage, Fuel, SourceFault, SinkFault, Memory}
-use Rattle.ath_session.specs.Run.{Said, Item, asks, tells, Configuration, Halt, all_run, out_of_fuel, Move, goes, halts, items_of, Moves, Runs, at_start, one_more}
-use Rattle.ath_session.specs.Report.{Report, names_in, is_error, has_error, status_of, start, IsLogOf, IsReportOf}
-use Rattle.ath_session.specs.Ends.{Outside, after_items, after_part, Interrupts, Performed, Whole, Broken, Reports, ReportsOf, Completes}
+use Rattle.ath_session.specs.Run.{Item, asks, tells, Configuration, Halt, all_run, out_of_fuel, Move, halts, items_of, Moves, Runs, at_start, one_more}
+use Rattle.ath_session.specs.Report.{Report, is_error, has_error, status_of, start, IsLogOf, IsReportOf}
+use Rattle.ath_session.specs.Ends.{Outside, after_items, after_part, Performed, IsAnswer, Reports}
 use Rattle.ath_reader.specs.Reading.{Reading}
 use Rattle.ath_session.specs.declared.desk.Desk.{Desk}
 use Rattle.ath_session.specs.Session.{state_of}
 use Rattle.ath_session.specs.State.{State}
 use Rattle.ath_session.specs.Steps.{configuration_of, Ended, Did, AreGoing, IsNewDesk}
 use Rattle.ath_session.proofs.DeskLaws.{no_items, items_more, part_more}
+use Rattle.ath_session.proofs.Existence.{some_move, run_ends}
 use Rattle.ath_session.proofs.RunLaws.{log_after, one-report-of}
-use Rattle.ath_session.proofs.Sound.{justified_front, justified_log}
+use Rattle.ath_session.proofs.Sound.{justified_log}
 
 module _ (texts : List (List ℕ × List ℕ)) (run : Asked) (o : Outside) where
   -- these steps are done
@@ -41,14 +41,14 @@ module _ (texts : List (List ℕ × List ℕ)) (run : Asked) (o : Outside) where
   }
 
   -- a final move makes the report
-  whole-report : (h : Halt) (status : Status) {c : Configuration} {e : Bool} {now now' : Outside} (items : List Item) → (a : At c e now) → Moves texts c (halts items h) → status_of h (a.done ++ items) ≡ status → Performed status (a.done ++ items) o now' → Whole texts (Some run) status o now'
+  whole-report : (h : Halt) (status : Status) {c : Configuration} {e : Bool} {now now' : Outside} (items : List Item) → (a : At c e now) → Moves texts c (halts items h) → IsAnswer status (status_of h (a.done ++ items)) → Performed status (a.done ++ items) o now' → Reports texts (Some run) status o now'
   whole-report h status {c} items a move answer done =
       let log : IsLogOf texts (start run) (a.done ++ items) h = record { done = a.done; last = items; final = c; runs = a.runs; over = move; all = refl } in
       record {
-        report = record { log = a.done ++ items; status = status };
-        written = (h, log, sym answer);
-        answer = refl;
+        report = record { log = a.done ++ items; status = status_of h (a.done ++ items) };
+        written = (h, log, refl);
         follows = justified_log texts run (a.done ++ items) h log;
+        answer = answer;
         done = done;
       }
 
@@ -58,86 +58,79 @@ module _ (texts : List (List ℕ × List ℕ)) (run : Asked) (o : Outside) where
   nothing-more : {c : Configuration} {e : Bool} {now now' : Outside} → (a : At c e now) → now' ≡ now → now' ≡ after_items o (a.done ++ [])
   nothing-more a e = e ∙ (a.is ∙ ap (after_items o) (sym (append-nil a.done)))
 
-  module _ (one : OneNext) where
-    -- a part of the next move is done
-    broken : (status : Status) → ((m : Move) (done more log : List Item) (now now' : Outside) → now ≡ after_items o done → log ≡ done ++ (items_of m ++ more) → Interrupts m status now now' → Performed status log o now')
-        → {c : Configuration} {e : Bool} {now now' : Outside} → At c e now → ((m : Move) → Moves texts c m → Interrupts m status now now') → Broken texts run status o now'
-    broken status performed {c} {now = now} {now' = now'} a next = record {
-      steps = a.done;
-      reached = c;
-      runs = a.runs;
-      follow = justified_front texts run a.done c a.runs;
-      next = λ m h. subst (λ p. Interrupts m status p now') a.is (next m h);
-      report = λ r (h, log, answer).
-          let after = log_after one texts (start run) r.log h a.done c log a.runs in
-          (justified_log texts run r.log h log, performed after.move a.done after.more r.log now now' a.is after.all (next after.move after.moves));
-    }
+  -- a part of the next move is done, and with it a part of the report
+  part-reported : (status : Status) → ((written : Status) → IsAnswer status written) → ((m : Move) (done more log : List Item) (errors : Bool) (now now' : Outside) → now ≡ after_items o done → log ≡ done ++ (items_of m ++ more) → Ended m status errors now now' → Performed status log o now')
+      → {c : Configuration} {e : Bool} {now now' : Outside} → At c e now → ((m : Move) → Moves texts c m → Ended m status e now now') → Reports texts (Some run) status o now'
+  part-reported status answer performed {c} {e} {now} {now'} a did =
+      let l = run_ends texts run in
+      let after = log_after one_next texts (start run) l.log l.halt a.done c l.is a.runs in
+      record {
+        report = record { log = l.log; status = status_of l.halt l.log };
+        written = (l.halt, l.is, refl);
+        follows = justified_log texts run l.log l.halt l.is;
+        answer = answer (status_of l.halt l.log);
+        done = performed after.move a.done after.more l.log e now now' a.is after.all (did after.move after.moves);
+      }
 
-    source-performed : (m : Move) (done more log : List Item) (now now' : Outside) → now ≡ after_items o done → log ≡ done ++ (items_of m ++ more) → Interrupts m SourceFault now now' → Performed SourceFault log o now'
-    source-performed m done more log now now' is all (name, rest, (items, after)) =
-        (done, rest ++ more, name, (all ∙ ap (λ xs. done ++ (xs ++ more)) items, after ∙ (ap (λ p. after_items p (asks name ∷ [])) is ∙ items_more o done (asks name ∷ []))))
+  source-performed : (m : Move) (done more log : List Item) (errors : Bool) (now now' : Outside) → now ≡ after_items o done → log ≡ done ++ (items_of m ++ more) → Ended m SourceFault errors now now' → Performed SourceFault log o now'
+  source-performed m done more log errors now now' is all (name, rest, (items, after)) =
+      (done, rest ++ more, name, (all ∙ ap (λ xs. done ++ (xs ++ more)) items, after ∙ (ap (λ p. after_items p (asks name ∷ [])) is ∙ items_more o done (asks name ∷ []))))
 
-    sink-performed : (m : Move) (done more log : List Item) (now now' : Outside) → now ≡ after_items o done → log ≡ done ++ (items_of m ++ more) → Interrupts m SinkFault now now' → Performed SinkFault log o now'
-    sink-performed m done more log now now' is all (front, rest, s, count, (items, after)) = (
-      done ++ front,
-      rest ++ more,
-      s,
-      count,
-      (
-        all ∙ (ap (λ xs. done ++ (xs ++ more)) items ∙ (ap (λ xs. done ++ xs) (append_assoc front (tells s ∷ rest) more) ∙ sym (append_assoc done front (tells s ∷ (rest ++ more))))),
-        after ∙ (ap (λ p. after_part p front (take count s.line)) is ∙ part_more o done front (take count s.line)),
-      ),
-    )
+  sink-performed : (m : Move) (done more log : List Item) (errors : Bool) (now now' : Outside) → now ≡ after_items o done → log ≡ done ++ (items_of m ++ more) → Ended m SinkFault errors now now' → Performed SinkFault log o now'
+  sink-performed m done more log errors now now' is all (front, rest, s, count, (items, after)) = (
+    done ++ front,
+    rest ++ more,
+    s,
+    count,
+    (
+      all ∙ (ap (λ xs. done ++ (xs ++ more)) items ∙ (ap (λ xs. done ++ xs) (append_assoc front (tells s ∷ rest) more) ∙ sym (append_assoc done front (tells s ∷ (rest ++ more))))),
+      after ∙ (ap (λ p. after_part p front (take count s.line)) is ∙ part_more o done front (take count s.line)),
+    ),
+  )
 
-    memory-performed : (m : Move) (done more log : List Item) (now now' : Outside) → now ≡ after_items o done → log ≡ done ++ (items_of m ++ more) → Interrupts m Memory now now' → Performed Memory log o now'
-    memory-performed m done more log now now' is all (front, rest, (items, after)) = (
-      done ++ front,
-      rest ++ more,
-      (
-        all ∙ (ap (λ xs. done ++ (xs ++ more)) items ∙ (ap (λ xs. done ++ xs) (append_assoc front rest more) ∙ sym (append_assoc done front (rest ++ more)))),
-        after ∙ (ap (λ p. after_items p front) is ∙ items_more o done front),
-      ),
-    )
+  memory-performed : (m : Move) (done more log : List Item) (errors : Bool) (now now' : Outside) → now ≡ after_items o done → log ≡ done ++ (items_of m ++ more) → Ended m Memory errors now now' → Performed Memory log o now'
+  memory-performed m done more log errors now now' is all (front, rest, (items, after)) = (
+    done ++ front,
+    rest ++ more,
+    (
+      all ∙ (ap (λ xs. done ++ (xs ++ more)) items ∙ (ap (λ xs. done ++ xs) (append_assoc front rest more) ∙ sym (append_assoc done front (rest ++ more)))),
+      after ∙ (ap (λ p. after_items p front) is ∙ items_more o done front),
+    ),
+  )
 
-    out-of-fuel : {c : Configuration} {e : Bool} {now now' : Outside} → At c e now → (m : Move) → Moves texts c m → Ended m Fuel e now now' → Whole texts (Some run) Fuel o now'
-    out-of-fuel {c} {now' = now'} a m move (items, (is, after)) =
-        let all : now' ≡ after_items o (a.done ++ items) = after ∙ (ap (λ p. after_items p items) a.is ∙ items_more o a.done items) in
-        whole-report out_of_fuel Fuel items a (subst (Moves texts c) is move) refl all
+  out-of-fuel : {c : Configuration} {e : Bool} {now now' : Outside} → At c e now → (m : Move) → Moves texts c m → Ended m Fuel e now now' → Reports texts (Some run) Fuel o now'
+  out-of-fuel {c} {now' = now'} a m move (items, (is, after)) =
+      let all : now' ≡ after_items o (a.done ++ items) = after ∙ (ap (λ p. after_items p items) a.is ∙ items_more o a.done items) in
+      whole-report out_of_fuel Fuel items a (subst (Moves texts c) is move) refl all
 
-    -- what is done where the run ends
-    pub ends : (status : Status) (now' : Outside) {c : Configuration} {e : Bool} {now : Outside} → At c e now → ((status ≢ Memory) → (status ≢ SourceFault) → (status ≢ SinkFault) → (m : Move) × Moves texts c m) → ((m : Move) → Moves texts c m → Ended m status e now now') → Reports texts run status o now'
-    ends Clean now' {c} {e} a there did =
-        let m = there (λ f. absurd cc) (λ f. absurd cc) (λ f. absurd cc) in
-        let d = did m.0 m.1 in
-        whole-report all_run Clean [] a (subst (Moves texts c) d.0 m.1) (ended-status e a.done a.told ∙ ap (λ b. if b then Errors else Clean) d.1) (nothing-more a d.2)
-    ends Errors now' {c} {e} a there did =
-        let m = there (λ f. absurd cc) (λ f. absurd cc) (λ f. absurd cc) in
-        let d = did m.0 m.1 in
-        whole-report all_run Errors [] a (subst (Moves texts c) d.0 m.1) (ended-status e a.done a.told ∙ ap (λ b. if b then Errors else Clean) d.1) (nothing-more a d.2)
-    ends Fuel now' a there did =
-        let m = there (λ f. absurd cc) (λ f. absurd cc) (λ f. absurd cc) in
-        out-of-fuel a m.0 m.1 (did m.0 m.1)
-    ends SourceFault now' a there did = broken SourceFault source-performed a did
-    ends SinkFault now' a there did = broken SinkFault sink-performed a did
-    ends Memory now' a there did = broken Memory memory-performed a did
-    ends Usage now' a there did =
-        let m = there (λ f. absurd cc) (λ f. absurd cc) (λ f. absurd cc) in
-        absurd (did m.0 m.1)
+  -- what is done where the run ends
+  pub ends : (status : Status) (now' : Outside) {c : Configuration} {e : Bool} {now : Outside} → At c e now → ((m : Move) → Moves texts c m → Ended m status e now now') → Reports texts (Some run) status o now'
+  ends Clean now' {c} {e} a did =
+      let m = some_move texts c in
+      let d = did m.0 m.1 in
+      whole-report all_run Clean [] a (subst (Moves texts c) d.0 m.1) (ended-status e a.done a.told ∙ ap (λ b. if b then Errors else Clean) d.1) (nothing-more a d.2)
+  ends Errors now' {c} {e} a did =
+      let m = some_move texts c in
+      let d = did m.0 m.1 in
+      whole-report all_run Errors [] a (subst (Moves texts c) d.0 m.1) (ended-status e a.done a.told ∙ ap (λ b. if b then Errors else Clean) d.1) (nothing-more a d.2)
+  ends Fuel now' {c} a did = let m = some_move texts c in out-of-fuel a m.0 m.1 (did m.0 m.1)
+  ends SourceFault now' a did = part-reported SourceFault (λ s. tt) source-performed a did
+  ends SinkFault now' a did = part-reported SinkFault (λ s. tt) sink-performed a did
+  ends Memory now' a did = part-reported Memory (λ s. tt) memory-performed a did
+  ends Usage now' {c} a did = let m = some_move texts c in absurd (did m.0 m.1)
 
 -- nothing is done
-pub not-begun : OneNext → (texts : List (List ℕ × List ℕ)) (run : Asked) (o : Outside) → Reports texts run Memory o o
-not-begun one texts run o = ends texts run o one Memory o (at-first texts run o (start run) refl) (λ f g h. absurd (f refl)) (λ m h. ([], items_of m, (refl, sym (no_items o))))
+pub not-begun : (texts : List (List ℕ × List ℕ)) (run : Asked) (o : Outside) → Reports texts (Some run) Memory o o
+not-begun texts run o = ends texts run o Memory o (at-first texts run o (start run) refl) (λ m h. ([], items_of m, (refl, sym (no_items o))))
+
+-- words that spell no run have the empty report
+pub none-spelled : (texts : List (List ℕ × List ℕ)) (status : Status) (o : Outside) → IsAnswer status Usage → Performed status [] o o → Reports texts None status o o
+none-spelled texts status o answer done = record { report = record { log = []; status = Usage }; written = refl; follows = tt; answer = answer; done = done }
 
 -- the words aren't read
-pub none-read : OneNext → (texts : List (List ℕ × List ℕ)) (asked : Option Asked) (o : Outside) → ReportsOf texts asked Memory o o
-none-read one texts None o = (inr refl, refl)
-none-read one texts (Some run) o = not-begun one texts run o
-
-pub same-end : {a b : Status} → End a ≡ End b → a ≡ b
-same-end e = cc
-
-pub on-no-end : {f : Flow} {s : Status} → f ≡ On → f ≡ End s → ⊥
-on-no-end e e' = absurd cc
+pub none-read : (texts : List (List ℕ × List ℕ)) (asked : Option Asked) (o : Outside) → Reports texts asked Memory o o
+none-read texts None o = none-spelled texts Memory o tt ([], [], (refl, sym (no_items o)))
+none-read texts (Some run) o = not-begun texts run o
 
 configuration : List (List ℕ) → List Reading → List (List ℕ) → State → Configuration
 configuration ws rs fs st = record { waiting = ws; stack = rs; files = fs; state = st }
@@ -166,16 +159,15 @@ pub still-told : (t : Texts) (told : Option Texts) (names : List (List ℕ)) →
 still-told t told names e = ap (λ x. with_asked x names) e
 
 -- an answer is the status of each report, where it is no fault
-pub completes : OneNext → (texts : List (List ℕ × List ℕ)) (asked : Option Asked) (status : Status) (o o' : Outside) → status ≢ Memory → status ≢ SourceFault → status ≢ SinkFault → ReportsOf texts asked status o o' → (r : Report) → IsReportOf texts asked r → r.status ≡ status
-completes one texts None status o o' f g h (u, is) r e = by u
-  where
-    by : (status ≡ Usage ⊎ status ≡ Memory) → r.status ≡ status
-    by (inl u) = ap (λ (s : Report). s.status) e ∙ sym u
-    by (inr m) = absurd (f m)
-completes one texts (Some run) Clean o o' f g h w r i = ap (λ (s : Report). s.status) (one-report-of one texts (Some run) r w.report i w.written) ∙ w.answer
-completes one texts (Some run) Errors o o' f g h w r i = ap (λ (s : Report). s.status) (one-report-of one texts (Some run) r w.report i w.written) ∙ w.answer
-completes one texts (Some run) Fuel o o' f g h w r i = ap (λ (s : Report). s.status) (one-report-of one texts (Some run) r w.report i w.written) ∙ w.answer
-completes one texts (Some run) SourceFault o o' f g h w r i = absurd (g refl)
-completes one texts (Some run) SinkFault o o' f g h w r i = absurd (h refl)
-completes one texts (Some run) Memory o o' f g h w r i = absurd (f refl)
-completes one texts (Some run) Usage o o' f g h w r i = absurd w
+is-answer : (status written : Status) → IsAnswer status written → status ≢ Memory → status ≢ SourceFault → status ≢ SinkFault → written ≡ status
+is-answer SourceFault written a f g h = absurd (g refl)
+is-answer SinkFault written a f g h = absurd (h refl)
+is-answer Memory written a f g h = absurd (f refl)
+is-answer Clean written a f g h = a
+is-answer Errors written a f g h = a
+is-answer Fuel written a f g h = a
+is-answer Usage written a f g h = a
+
+pub completes : (texts : List (List ℕ × List ℕ)) (asked : Option Asked) (status : Status) (o o' : Outside) → status ≢ Memory → status ≢ SourceFault → status ≢ SinkFault → Reports texts asked status o o' → (r : Report) → IsReportOf texts asked r → r.status ≡ status
+completes texts asked status o o' f g h w r i =
+    ap (λ (s : Report). s.status) (one-report-of one_next texts asked r w.report i w.written) ∙ is-answer status w.report.status w.answer f g h

@@ -14,6 +14,10 @@ use Rattle.ath_session.specs.Theorems.{TheoremsFollow}
 abbrev pub OneReport : Type 0
 OneReport = (words : List (List ℕ)) (texts : List (List ℕ × List ℕ)) (r s : Report) → IsReport words texts r → IsReport words texts s → r ≡ s
 
+-- the words and the texts have a report: a run ends
+abbrev pub SomeReport : Type 0
+SomeReport = (words : List (List ℕ)) (texts : List (List ℕ × List ℕ)) → (r : Report) × IsReport words texts r
+
 -- each theorem of a report has a derivation from what was asserted before it
 abbrev pub EachTheoremFollows : Type 0
 EachTheoremFollows = (words : List (List ℕ)) (texts : List (List ℕ × List ℕ)) (r : Report) → IsReport words texts r → TheoremsFollow r

@@ -1,6 +1,6 @@
 // One step of a run: the next directive of the innermost text, or the next file.
 
-ghost use Rattle.std.specs.Prelude.{◌≡◌, ◌≢◌, ◌≤◌, ◌<◌, ◌-◌, [], ◌∷◌, length, map, Some, Option, IfOk, OnErr, true, false, ◌||◌};
+ghost use Rattle.std.specs.Prelude.{◌≡◌, ◌≤◌, ◌<◌, ◌-◌, [], ◌∷◌, length, map, Some, Option, IfOk, OnErr, true, false, ◌||◌};
 ghost use Rattle.std.specs.List.{All};
 ghost use Rattle.ath_io.specs.Faults.{Rose};
 ghost use Rattle.ath_io.specs.Shelf.{Texts};
@@ -291,7 +291,6 @@ fn read_on<S: Shelf, K: Sink>(
 ) -> Flow
     requires shallow { length desk.old.open.items ≤ 16 }
     requires going { AreGoing (record (configuration_of desk.old) { stack = reader ∷ (configuration_of desk.old).stack }) }
-    ensures moves { (t : Texts) → S.told shelf.old ≡ Some t → result ≢ End Status.Memory → result ≢ End SourceFailed → result ≢ End SinkFailed → (m : Move) × Moves t.texts (record (configuration_of desk.old) { stack = reader ∷ (configuration_of desk.old).stack }) m }
     ensures did { (t : Texts) (m : Move) → S.told shelf.old ≡ Some t → Moves t.texts (record (configuration_of desk.old) { stack = reader ∷ (configuration_of desk.old).stack }) m → Did m result desk.old.errors desk.new.errors (configuration_of desk.new) (record { shelf = S.told shelf.old; sink = K.told sink.old }) (record { shelf = S.told shelf.new; sink = K.told sink.new }) }
     ensures going { result ≡ On → AreGoing (configuration_of desk.new) }
     ensures shallow { result ≡ On → length desk.new.open.items ≤ 17 }
@@ -324,7 +323,6 @@ pub(crate) fn advance<S: Shelf, K: Sink>(
 ) -> Flow
     requires shallow { length desk.old.open.items ≤ 17 }
     requires going { AreGoing (configuration_of desk.old) }
-    ensures moves { (t : Texts) → S.told shelf.old ≡ Some t → result ≢ End Status.Memory → result ≢ End SourceFailed → result ≢ End SinkFailed → (m : Move) × Moves t.texts (configuration_of desk.old) m }
     ensures did { (t : Texts) (m : Move) → S.told shelf.old ≡ Some t → Moves t.texts (configuration_of desk.old) m → Did m result desk.old.errors desk.new.errors (configuration_of desk.new) (record { shelf = S.told shelf.old; sink = K.told sink.old }) (record { shelf = S.told shelf.new; sink = K.told sink.new }) }
     ensures going { result ≡ On → AreGoing (configuration_of desk.new) }
     ensures shallow { result ≡ On → length desk.new.open.items ≤ 17 }

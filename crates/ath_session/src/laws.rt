@@ -1,10 +1,15 @@
 // Laws of directives, runs and reports.
 
-ghost use Rattle.ath_session.specs.Laws.{OneReport, EachTheoremFollows, RefusedLeavesState, FuelNeverRises, ExhaustedKeepsState, EachLineIsWhole};
+ghost use Rattle.ath_session.specs.Laws.{OneReport, SomeReport, EachTheoremFollows, RefusedLeavesState, FuelNeverRises, ExhaustedKeepsState, EachLineIsWhole};
 
 /// The words and the texts by name have one report at most.
 pub fn one_report()
     ensures { OneReport }
+{}
+
+/// The words and the texts by name have a report: whatever they say, the run ends.
+pub fn some_report()
+    ensures { SomeReport }
 {}
 
 /// Each theorem of a report has a derivation, under no hypotheses, from the sentences that were asserted before it.

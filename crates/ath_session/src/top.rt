@@ -67,7 +67,7 @@ fn run_files<S: Shelf, K: Sink>(
     shelf: &mut S,
     sink: &mut K,
 ) -> Status
-    ensures report { (t : Texts) → S.told shelf.old ≡ Some t → Reports t.texts (record { fuel = fuel; files = map (λ file. file.now) files.now }) result (record { shelf = S.told shelf.old; sink = K.told sink.old }) (record { shelf = S.told shelf.new; sink = K.told sink.new }) }
+    ensures report { (t : Texts) → S.told shelf.old ≡ Some t → Reports t.texts (Some (record { fuel = fuel; files = map (λ file. file.now) files.now })) result (record { shelf = S.told shelf.old; sink = K.told sink.old }) (record { shelf = S.told shelf.new; sink = K.told sink.new }) }
     ensures no_usage { result ≡ Usage → ⊥ }
     ensures source_later { S.faults shelf.old ≤ S.faults shelf.new }
     ensures source_cause { result ≡ SourceFault → Rose (S.faults shelf.old) (S.faults shelf.new) }

@@ -2,24 +2,16 @@ use Rattle.std.proofs.Common.{◌∷◌, ◌-◌, ◌≤◌, List, Ok, length, r
 use Rattle.std.proofs.lemmas.List.{length-reverse}
 use Rattle.std.proofs.lemmas.List.Elements.{All-head, All-tail, All-cons, All-same}
 use Rattle.ath_reader.specs.Reading.{Reading, reached}
-use Rattle.ath_reader.specs.Next.{ended, stopped, whole}
 use Rattle.ath_reader.proofs.NextAnswers.{none_of_answer, whole_of_answer, stopped_of_answer}
 use Rattle.ath_session.specs.declared.desk.Desk.{Desk}
 use Rattle.ath_session.specs.State.{State, with_names}
 use Rattle.ath_session.specs.Session.{state_of}
 use Rattle.ath_session.specs.Steps.{configuration_of, IsGoing}
-use Rattle.ath_session.proofs.ReadLaws.{reads, same_state, pushed, read_to, refusal_next, refused_did, some_move, ended_did, stopped_did, whole_did, not_memory, innermost, around}
+use Rattle.ath_session.proofs.ReadLaws.{reads, same_state, pushed, read_to, refused_did, ended_did, stopped_did, whole_did, not_memory, innermost, around}
 use Rattle.ath_session.proofs.WeightLaws.{popped_falls, text_falls, opens_going}
 use Rattle.ath_reader.proofs.OneNext.{one_next}
 use Rattle.ath_reader.proofs.Advance.{advances}
 use Rattle.ath_session.proofs.desk.read_on.Goals as goal
-
-pub returns-in-Ok-None-clause-moves : goal.returns-in-Ok-None-clause-moves
-returns-in-Ok-None-clause-moves g c = λ t told a b e.
-    let is = All-head IsGoing c.args.reader (reverse c.args.desk.now.open.items) c.requires.going in
-    let answers = reads c.args.reader is.0 c.args.desk.now.session.world.names c.args.desk.now.session.world.phrases c.read.result c.read.new.reader c.read.new.self.world.names c.read.new.self.world.phrases is.1.0 c.read.ensures.answers in
-    let none = none_of_answer c.args.reader is.0 c.args.desk.now.session.world.names c.args.desk.now.session.world.phrases c.read.new.reader c.read.new.self.world.names c.read.new.self.world.phrases c.read.result answers (c.in-Ok-None.is ∙ ap Ok c.in-Ok-None.field-0-is) in
-    some_move t.texts (configuration_of c.args.desk.now) c.args.reader is.0 is.1.0 ended none.0
 
 pub returns-in-Ok-None-clause-did : goal.returns-in-Ok-None-clause-did
 returns-in-Ok-None-clause-did g c = λ t m told moves.
@@ -43,13 +35,6 @@ run_directive-requires g c =
     let answers = reads c.args.reader is.0 c.args.desk.now.session.world.names c.args.desk.now.session.world.phrases c.read.result c.read.new.reader c.read.new.self.world.names c.read.new.self.world.phrases is.1.0 c.read.ensures.answers in
     let found = whole_of_answer c.args.reader is.0 c.args.desk.now.session.world.names c.args.desk.now.session.world.phrases c.read.new.reader c.read.new.self.world.names c.read.new.self.world.phrases c.read.result answers c.in-Ok-Some.directive (c.in-Ok-Some.is ∙ ap Ok c.in-Ok-Some.field-0-is) in
     (found.0, found.2)
-
-pub returns-else-is_err-clause-moves : goal.returns-else-is_err-clause-moves
-returns-else-is_err-clause-moves g c = λ t told a b e.
-    let is = All-head IsGoing c.args.reader (reverse c.args.desk.now.open.items) c.requires.going in
-    let answers = reads c.args.reader is.0 c.args.desk.now.session.world.names c.args.desk.now.session.world.phrases c.read.result c.read.new.reader c.read.new.self.world.names c.read.new.self.world.phrases is.1.0 c.read.ensures.answers in
-    let found = whole_of_answer c.args.reader is.0 c.args.desk.now.session.world.names c.args.desk.now.session.world.phrases c.read.new.reader c.read.new.self.world.names c.read.new.self.world.phrases c.read.result answers c.in-Ok-Some.directive (c.in-Ok-Some.is ∙ ap Ok c.in-Ok-Some.field-0-is) in
-    some_move t.texts (configuration_of c.args.desk.now) c.args.reader is.0 is.1.0 (whole found.0 found.1 c.read.new.self.world.names) found.3
 
 pub returns-else-is_err-clause-did : goal.returns-else-is_err-clause-did
 returns-else-is_err-clause-did g c = λ t m told moves.
@@ -85,13 +70,6 @@ returns-else-is_err-clause-falls g c = λ on.
     let further = advances c.args.reader c.args.desk.now.session.world.names is.0 found.0 found.1 c.read.new.self.world.names found.3 in
     let deep : length (reverse c.args.desk.now.open.items) ≤ 16 = subst (λ n. n ≤ 16) (sym (length-reverse c.args.desk.now.open.items)) c.requires.shallow in
     text_falls (configuration_of c.args.desk.now) (configuration_of c.run_directive.new.desk) c.args.reader is.0 is.1.0 found.1 further.0 further.1 deep (configuration_of (record c.args.desk.now { session = c.read.new.self; «open» = c.push.new.self })) refl stack (c.run_directive.ensures.opens on)
-
-pub returns-in-Err-clause-moves : goal.returns-in-Err-clause-moves
-returns-in-Err-clause-moves g c = λ t told a b e.
-    let is = All-head IsGoing c.args.reader (reverse c.args.desk.now.open.items) c.requires.going in
-    let answers = reads c.args.reader is.0 c.args.desk.now.session.world.names c.args.desk.now.session.world.phrases c.read.result c.read.new.reader c.read.new.self.world.names c.read.new.self.world.phrases is.1.0 c.read.ensures.answers in
-    let refused = stopped_of_answer c.args.reader is.0 c.args.desk.now.session.world.names c.args.desk.now.session.world.phrases c.read.new.reader c.read.new.self.world.names c.read.new.self.world.phrases c.read.result answers c.in-Err.error c.in-Err.is in
-    some_move t.texts (configuration_of c.args.desk.now) c.args.reader is.0 is.1.0 (stopped c.in-Err.error c.read.new.self.world.names) (refusal_next c.args.reader c.args.desk.now.session.world.names is.0 c.in-Err.error c.read.new.self.world.names c.args.desk.now.session.world.phrases c.read.new.self.world.phrases refused.0 (λ k. a (c.refuse_text.ensures.memory k).0))
 
 pub returns-in-Err-clause-did : goal.returns-in-Err-clause-did
 returns-in-Err-clause-did g c = λ t m told moves.

@@ -1,18 +1,24 @@
-use Rattle.std.proofs.Common.{◌≡◌, ℕ, List, Option, Some, None, map, string_bytes, refl, sym, subst, ap, ◌∙◌, rules}
+use Rattle.std.proofs.Common.{◌≡◌, Some, None, map, string_bytes, refl, subst, rules}
 use Rattle.ath_words.specs.Words.{run_of, asked_of}
-use Rattle.ath_session.specs.Ends.{Outside, ReportsOf}
-use Rattle.ath_reader.proofs.OneNext.{one_next}
-use Rattle.ath_session.proofs.TopLaws.{none-read, completes}
+use Rattle.ath_session.specs.declared.status.Status.TheVariants.{Usage}
+use Rattle.ath_session.specs.Ends.{Outside, Reports}
+use Rattle.ath_session.proofs.TopLaws.{none-spelled, none-read, completes}
 use Rattle.ath_session.proofs.top.athena.Goals as goal
 
 pub returns-in-Err-clause-report : goal.returns-in-Err-clause-report
-returns-in-Err-clause-report g c = λ t h. none-read one_next t.texts (run_of (map string_bytes c.args.words.now.items)) (record { shelf = g.S.Shelf.told c.args.shelf.now; sink = g.K.Sink.told c.args.sink.now })
+returns-in-Err-clause-report g c = λ t h. none-read t.texts (run_of (map string_bytes c.args.words.now.items)) (record { shelf = g.S.Shelf.told c.args.shelf.now; sink = g.K.Sink.told c.args.sink.now })
+
+pub returns-in-Ok-None-clause-report : goal.returns-in-Ok-None-clause-report
+returns-in-Ok-None-clause-report g c = λ t h.
+    let o : Outside = record { shelf = g.S.Shelf.told c.args.shelf.now; sink = g.K.Sink.told c.args.sink.now } in
+    let none : None ≡ run_of (map string_bytes c.args.words.now.items) = search rules in
+    subst (λ a. Reports t.texts a Usage o o) none (none-spelled t.texts Usage o refl refl)
 
 pub returns-in-Ok-Some-clause-complete : goal.returns-in-Ok-Some-clause-complete
 returns-in-Ok-Some-clause-complete g c = λ source sink t h wanted r i.
     let run : Some (asked_of c.in-Ok-Some.run') ≡ run_of (map string_bytes c.args.words.now.items) = search rules in
     let before : Outside = record { shelf = g.S.Shelf.told c.args.shelf.now; sink = g.K.Sink.told c.args.sink.now } in
     let after : Outside = record { shelf = g.S.Shelf.told c.run_files.new.shelf; sink = g.K.Sink.told c.run_files.new.sink } in
-    completes one_next t.texts (run_of (map string_bytes c.args.words.now.items)) c.run_files.result before after
+    completes t.texts (run_of (map string_bytes c.args.words.now.items)) c.run_files.result before after
     wanted (λ e. source (c.run_files.ensures.source_cause e)) (λ e. sink (c.run_files.ensures.sink_cause e))
-    (subst (λ a. ReportsOf t.texts a c.run_files.result before after) run (search rules)) r i
+    (subst (λ a. Reports t.texts a c.run_files.result before after) run (search rules)) r i

@@ -1,16 +1,14 @@
-use Rattle.std.proofs.Common.{◌≡◌, ℕ, ◌≤◌, Option, Some, length, map, arith, refl, sym, subst, ap, ◌∙◌}
-use Rattle.ath_io.specs.Shelf.{Texts, with_asked}
-use Rattle.ath_session.specs.declared.desk.Flow.TheVariants.{On, End}
-use Rattle.ath_session.specs.declared.status.Status.TheVariants.{Usage, Memory, SourceFault, SinkFault}
+use Rattle.std.proofs.Common.{length, map, arith, subst, ap, ◌∙◌}
+use Rattle.ath_session.specs.declared.desk.Flow.TheVariants.{End}
 use Rattle.ath_session.specs.Ends.{Outside}
 use Rattle.ath_session.specs.Steps.{configuration_of, Did}
-use Rattle.ath_reader.proofs.OneNext.{one_next}
-use Rattle.ath_session.proofs.TopLaws.{At, goes-on, ends, not-begun, new-at, new-going, still-told, same-end, on-no-end}
+use Rattle.ath_session.proofs.Existence.{some_move}
+use Rattle.ath_session.proofs.TopLaws.{goes-on, ends, not-begun, new-at, new-going, still-told}
 use Rattle.ath_session.specs.Report.{names_in}
 use Rattle.ath_session.proofs.top.run_files.Goals as goal
 
 pub returns-in_default-clause-report : goal.returns-in_default-clause-report
-returns-in_default-clause-report g c = λ t h. not-begun one_next t.texts (record { fuel = c.args.fuel; files = map (λ file. file.now) c.args.files.now }) (record { shelf = g.S.Shelf.told c.args.shelf.now; sink = g.K.Sink.told c.args.sink.now })
+returns-in_default-clause-report g c = λ t h. not-begun t.texts (record { fuel = c.args.fuel; files = map (λ file. file.now) c.args.files.now }) (record { shelf = g.S.Shelf.told c.args.shelf.now; sink = g.K.Sink.told c.args.sink.now })
 
 pub loop-status-init : goal.loop-status-init
 loop-status-init g c =
@@ -30,8 +28,7 @@ pub returns-in-End-clause-report : goal.returns-in-End-clause-report
 returns-in-End-clause-report g c = λ t h.
     let a = c.loop-status.invariant.at t h in
     let told = ap (λ o. o.shelf) a.is ∙ still-told t (g.S.Shelf.told c.args.shelf.now) (names_in a.done) h in
-    ends t.texts (record { fuel = c.args.fuel; files = map (λ file. file.now) c.args.files.now }) (record { shelf = g.S.Shelf.told c.args.shelf.now; sink = g.K.Sink.told c.args.sink.now }) one_next c.in-End.status _ a
-    (λ f f' f''. c.in-End.ensures.moves _ told (λ e. f (same-end e)) (λ e. f' (same-end e)) (λ e. f'' (same-end e)))
+    ends t.texts (record { fuel = c.args.fuel; files = map (λ file. file.now) c.args.files.now }) (record { shelf = g.S.Shelf.told c.args.shelf.now; sink = g.K.Sink.told c.args.sink.now }) c.in-End.status _ a
     (λ m move. c.in-End.ensures.did _ m told move)
 
 pub loop-status-preserved : goal.loop-status-preserved
@@ -45,7 +42,7 @@ loop-status-preserved g c =
       at = λ t h.
           let a = i.at t h in
           let told = ap (λ o. o.shelf) a.is ∙ still-told t (g.S.Shelf.told c.args.shelf.now) (names_in a.done) h in
-          let m = r.moves _ told (on-no-end on) (on-no-end on) (on-no-end on) in
+          let m = some_move t.texts (configuration_of c.loop-status.desk) in
           goes-on t.texts (record { fuel = c.args.fuel; files = map (λ file. file.now) c.args.files.now }) (record { shelf = g.S.Shelf.told c.args.shelf.now; sink = g.K.Sink.told c.args.sink.now }) m.0 a m.1
           (subst (λ f. Did m.0 f c.loop-status.desk.errors c.advance.new.desk.errors (configuration_of c.advance.new.desk) now then) on (r.did _ m.0 told m.1));
       going = r.going on;

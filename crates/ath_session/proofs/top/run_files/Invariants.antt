@@ -1,4 +1,4 @@
-use Rattle.std.proofs.Common.{◌≡◌, ℕ, ◌≤◌, Option, Some, length, map}
+use Rattle.std.proofs.Common.{◌≡◌, ◌≤◌, Some, length, map}
 use Rattle.ath_io.specs.Shelf.{Texts}
 use Rattle.ath_session.specs.Steps.{configuration_of, AreGoing, weight}
 use Rattle.ath_session.proofs.TopLaws.{At}

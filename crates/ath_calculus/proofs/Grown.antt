@@ -47,7 +47,7 @@ module _ (old new : Signature) (grown : Extends old new) where
   all_kept [] h e = refl
   all_kept (s ∷ ss) h e = let p = both (is_valid_sort old s) _ e in and_true (is_valid_sort new s) _ (h.0 p.0) (all_kept ss h.1 p.1)
 
-  sort_kept : (s : Sort) → Kept s
+  pub sort_kept : (s : Sort) → Kept s
   sort_kept = sort_induction Kept
       (λ v e. valid-var new v)
       (λ c args h e.
@@ -59,11 +59,11 @@ module _ (old new : Signature) (grown : Extends old new) where
   sorts_kept (s ∷ ss) e = let p = both (is_valid_sort old s) _ e in and_true (is_valid_sort new s) _ (sort_kept s p.0) (sorts_kept ss p.1)
 
   mutual
-    term_kept : {t : Term} {s : Sort} → HasSort old t s → HasSort new t s
+    pub term_kept : {t : Term} {s : Sort} → HasSort old t s → HasSort new t s
     term_kept (var_has {v} e f) = var_has (sort_kept v.sort e) f
     term_kept (app_has {f} {sorts} {args} d e l v ts r) = app_has d (grown.symbols f d e) l (sorts_kept sorts v) (terms_kept ts) r
 
-    terms_kept : {ts : Terms} {ss : List Sort} → HaveSorts old ts ss → HaveSorts new ts ss
+    pub terms_kept : {ts : Terms} {ss : List Sort} → HaveSorts old ts ss → HaveSorts new ts ss
     terms_kept none_has = none_has
     terms_kept (more_has t ts) = more_has (term_kept t) (terms_kept ts)
 

@@ -35,13 +35,13 @@ module _ (params : List Sym) (args : List Sort) (result : Sort) where
   large = cond (all_small sorts) None (Some SortTooLarge)
 
   -- the tests that don't speak of the name pass
-  record Passes (sig : Signature) : Type 0 where
-    width : wide ≡ false
+  pub record Passes (sig : Signature) : Type 0 where
+    pub width : wide ≡ false
     uses : use_faults sig params sorts ≡ None
     size : large ≡ None
     loose : loose_faults sorts params ≡ None
 
-  passes : (sig : Signature) (n : Sym) → symbol_fault sig n params args result ≡ None → Passes sig
+  pub passes : (sig : Signature) (n : Sym) → symbol_fault sig n params args result ≡ None → Passes sig
   passes sig n h =
       let a = first_none (fault_if (is_some (symbol_of sig n)) (Redeclared n)) (fault_if wide (TooWide n) ∷ use_faults sig params sorts ∷ large ∷ loose_faults sorts params ∷ []) h in
       let b = first_none (fault_if wide (TooWide n)) (use_faults sig params sorts ∷ large ∷ loose_faults sorts params ∷ []) a.1 in

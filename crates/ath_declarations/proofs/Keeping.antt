@@ -22,11 +22,11 @@ use Rattle.ath_declarations.proofs.Joins.{first_none, no_fault, name_free}
 use Rattle.ath_declarations.proofs.Names.{firsts_differ}
 use Rattle.ath_declarations.proofs.TextLaws.{none_made, spelled_none_made}
 
-unless_ok : {A : Type 0} (f : Option SigError) (o : Result A SigError) (x : A) → unless f o ≡ Ok x → (f ≡ None) × (o ≡ Ok x)
+pub unless_ok : {A : Type 0} (f : Option SigError) (o : Result A SigError) (x : A) → unless f o ≡ Ok x → (f ≡ None) × (o ≡ Ok x)
 unless_ok None o x h = (refl, h)
 unless_ok (Some e) o x h = absurd (cc)
 
-ok_is : {A : Type 0} (x y : A) → ◌≡◌ {A = Result A SigError} (Ok x) (Ok y) → x ≡ y
+pub ok_is : {A : Type 0} (x y : A) → ◌≡◌ {A = Result A SigError} (Ok x) (Ok y) → x ≡ y
 ok_is x y e = cc
 
 -- ---- what a text means

@@ -7,3 +7,5 @@ pub mod Joins
 pub mod TextLaws
 pub mod Keeping
 pub mod Rows
+mod FirstPlaces
+pub mod Narrow

@@ -1,5 +1,5 @@
 -- Laws of declarations.
-use Rattle.std.specs.Prelude.{◌≡◌, ℕ, true, false, List, [], ◌∷◌, ◌++◌, length, map, Option, Some, None, Ok, IfSome}
+use Rattle.std.specs.Prelude.{◌≡◌, ℕ, true, false, List, [], ◌∷◌, ◌++◌, length, map, Option, Some, None, Ok, IfSome, ◌≤◌}
 use Rattle.std.specs.List.{AllByRecursion}
 use Rattle.ath_sorts.specs.declared.signature.Symbol.{Symbol}
 use Rattle.ath_sorts.specs.declared.sorts.Sort.{Sort}
@@ -55,3 +55,15 @@ DomainsKeepValidity = (old new : Signature) (name : Sym) (vars : List Sym) → I
 -- so do declared symbols, where the parameters that are listed differ
 abbrev pub SymbolsKeepValidity : Type 0
 SymbolsKeepValidity = (old new : Signature) (names : List Sym) (list : Option (List Sym)) (args : List SortText) (result : SortText) → IsValid old → IfSome list AreDistinct → declared old names list args result ≡ Ok new → IsValid new
+
+-- each symbol has at most 64 parameters
+abbrev pub AreNarrow : Signature → Type 0
+AreNarrow sig = (f : Sym) (s : Symbol) → symbol_of sig f ≡ Some s → length s.params ≤ 64
+
+-- a domain adds no symbol that is wider
+abbrev pub DomainsKeepNarrow : Type 0
+DomainsKeepNarrow = (old new : Signature) (name : Sym) (vars : List Sym) → AreNarrow old → domain_declared old name vars ≡ Ok new → AreNarrow new
+
+-- nor do declared symbols
+abbrev pub SymbolsKeepNarrow : Type 0
+SymbolsKeepNarrow = (old new : Signature) (names : List Sym) (list : Option (List Sym)) (args : List SortText) (result : SortText) → AreNarrow old → declared old names list args result ≡ Ok new → AreNarrow new

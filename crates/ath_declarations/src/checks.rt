@@ -54,7 +54,7 @@ fn check_variable(params: Option<&[Sym]>, name: Sym) -> Result<(), SigError>
     }
 }
 
-fn is_among(name: Sym, names: &[Sym]) -> bool
+pub(crate) fn is_among(name: Sym, names: &[Sym]) -> bool
     ensures { result ≡ list_any (λ q. q.0 == name.0) names.now }
 {
     names.iter().any(|q| q.0 == name.0)

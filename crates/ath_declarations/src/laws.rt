@@ -1,6 +1,6 @@
 // Laws of declarations. Each function is a law: its contract, and no code.
 
-ghost use Rattle.ath_declarations.specs.Laws.{DomainsAreThere, DomainsKeep, DomainsKeepValidity, SymbolsAreThere, SymbolsKeep, SymbolsKeepValidity, TextsMeanSorts};
+ghost use Rattle.ath_declarations.specs.Laws.{DomainsAreThere, DomainsKeep, DomainsKeepNarrow, DomainsKeepValidity, SymbolsAreThere, SymbolsKeep, SymbolsKeepNarrow, SymbolsKeepValidity, TextsMeanSorts};
 
 /// A sort that a text means has its constructors at their arities and is within the limits, and none of its variables was
 /// made.
@@ -36,4 +36,14 @@ pub fn domains_keep_validity()
 /// Declared symbols keep a signature valid, where the parameters that are listed differ.
 pub fn symbols_keep_validity()
     ensures { SymbolsKeepValidity }
+{}
+
+/// A domain keeps each symbol at 64 parameters at most.
+pub fn domains_keep_narrow()
+    ensures { DomainsKeepNarrow }
+{}
+
+/// So do declared symbols.
+pub fn symbols_keep_narrow()
+    ensures { SymbolsKeepNarrow }
 {}

@@ -1,15 +1,24 @@
--- Values in a store that grows, and lists of them.
-use Rattle.std.proofs.Common.{◌≡◌, List, [], ◌∷◌, ◌++◌, Option, Some, None, length, map, refl, ◌∙◌, ap, arith}
-use Rattle.std.specs.List.{All}
-use Rattle.std.proofs.lemmas.List.{length-map, map-append}
-use Rattle.std.proofs.lemmas.List.Elements.{All-nil, All-push, All-weaker, All-head, All-tail}
+-- Values in a store that grows.
+use Rattle.std.proofs.lemmas.Grind.{common_steps}
+use Rattle.std.proofs.Common.{◌≡◌, Bool, true, false, ◌&&◌, ◌==◌, List, [], ◌∷◌, map, Option, Some, None, length, refl, sym, ◌∙◌, ap, arith}
+use Rattle.ath_sorts.specs.declared.sorts.Sym.{Sym}
+use Rattle.ath_sorts.specs.declared.sorts.Sort.{Sort, Con, out-Sort}
+use Rattle.ath_sorts.specs.declared.sorts.Sort.TheOpen as one
+use Rattle.ath_sorts.specs.declared.sorts.Sort.TheVariants.{rolls-Con, outs-Con}
+use Rattle.ath_sorts.specs.declared.sorts.Sort.TheFolds.{fold-roll-Sort}
+use Rattle.ath_sorts.specs.Signature.{Signature, boolean}
+use Rattle.ath_sorts.specs.Unifiers.{all_pass, same_step, same_sort}
+use Rattle.ath_sorts.proofs.SameSorts.{same_sort-true}
+use Rattle.ath_terms.specs.declared.node.TermId.{TermId}
 use Rattle.ath_terms.specs.declared.node.SentId.{SentId}
-use Rattle.ath_terms.specs.Tree.{Sent}
-use Rattle.ath_terms.specs.Trees.{Trees, Grows, IsSent}
+use Rattle.ath_terms.specs.Tree.{Term, Sent, atom}
+use Rattle.ath_terms.specs.Trees.{Trees, Grows, IsSent, term_at, sort_at}
+use Rattle.ath_terms.specs.SortsIn.{IsSortedIn}
+use Rattle.ath_terms.specs.WellSorted.{HasSort, IsWellSorted}
 use Rattle.ath_terms.proofs.Grow.{sent-kept}
 use Rattle.ath_env.specs.declared.value.Value.{Value as Coded}
 use Rattle.ath_env.specs.declared.value.Value.TheVariants as code
-use Rattle.ath_env.specs.Values.{Value, IsIn, value_at, IsValue, AreValues, IsSentenceOf, IsFound}
+use Rattle.ath_env.specs.Values.{Value, IsIn, value_at, IsValue, IsSentenceOf, IsFound}
 
 -- ---- what stood for a value goes on to do so
 pub is_in-kept : (s u : Trees) (v : Coded) → Grows s u → IsIn s v → IsIn u v
@@ -22,7 +31,10 @@ is_in-kept s u code.Back g h = tt
 is_in-kept s u (code.PrimMethod n) g h = tt
 
 pub value_at-kept : (s u : Trees) (v : Coded) → Grows s u → IsIn s v → value_at u v ≡ value_at s v
-value_at-kept s u (code.Term t) g h = ap Value.a_term (g.same_terms t.0 h)
+value_at-kept s u (code.Term t) g h =
+    let a = g.same_terms t.0 h in
+    let b = g.same_sorts t.0 h in
+    λ i. Value.a_term (a i) (b i)
 value_at-kept s u (code.Sent p) g h = ap Value.a_sentence (g.same_sents p.0 h)
 value_at-kept s u (code.Symbol f) g h = refl
 value_at-kept s u (code.Conn c) g h = refl
@@ -30,47 +42,11 @@ value_at-kept s u (code.Quant q) g h = refl
 value_at-kept s u code.Back g h = refl
 value_at-kept s u (code.PrimMethod n) g h = refl
 
-pub value-kept : (s u : Trees) (v : Coded) (x : Value) → Grows s u → IsValue s v x → IsValue u v x
-value-kept s u v x g h = (is_in-kept s u v g h.0, value_at-kept s u v g h.0 ∙ h.1)
-
-pub map-kept : (s u : Trees) (vs : List Coded) → Grows s u → All (IsIn s) vs → map (value_at u) vs ≡ map (value_at s) vs
-map-kept s u [] g h = refl
-map-kept s u (v ∷ vs) g h =
-    let a = value_at-kept s u v g (All-head (IsIn s) v vs h) in
-    let b = map-kept s u vs g (All-tail (IsIn s) v vs h) in
-    λ i. a i ∷ b i
-
-pub values-kept : (s u : Trees) (vs : List Coded) (xs : List Value) → Grows s u → AreValues s vs xs → AreValues u vs xs
-values-kept s u vs xs g h = (All-weaker (IsIn s) (IsIn u) (λ v. is_in-kept s u v g) vs h.0, map-kept s u vs g h.0 ∙ h.1)
-
 pub sentence-kept : (s u : Trees) (p : Option SentId) (x : Option Sent) → Grows s u → IsSentenceOf s p x → IsSentenceOf u p x
 sentence-kept s u None None g h = tt
 sentence-kept s u (Some p) (Some x) g h = sent-kept s u p.0 x g h
 sentence-kept s u None (Some x) g h = h
 sentence-kept s u (Some p) None g h = h
-
-pub found-kept : (s u : Trees) (v : Option Coded) (x : Option Value) → Grows s u → IsFound s v x → IsFound u v x
-found-kept s u None None g h = tt
-found-kept s u (Some v) (Some x) g h = value-kept s u v x g h
-found-kept s u None (Some x) g h = h
-found-kept s u (Some v) None g h = h
-
--- ---- lists of values
-pub values-none : (s : Trees) → AreValues s [] []
-values-none s = (All-nil (IsIn s), refl)
-
-pub values-push : (s : Trees) (vs : List Coded) (xs : List Value) (v : Coded) (x : Value) → AreValues s vs xs → IsValue s v x → AreValues s (vs ++ v ∷ []) (xs ++ x ∷ [])
-values-push s vs xs v x h k = (All-push (IsIn s) vs v h.0 k.0, rw (map-append (value_at s) vs (v ∷ []), h.1, k.1) refl)
-
--- the values so far, and one more in the store as it is then
-pub values-then : (s u : Trees) (vs : List Coded) (xs : List Value) (v : Coded) (x : Value) → Grows s u → AreValues s vs xs → IsValue u v x → AreValues u (vs ++ v ∷ []) (xs ++ x ∷ [])
-values-then s u vs xs v x g h k = values-push u vs xs v x (values-kept s u vs xs g h) k
-
-pub values-length : (s : Trees) (vs : List Coded) (xs : List Value) → AreValues s vs xs → length xs ≡ length vs
-values-length s vs xs h = rw (← h.1) (length-map vs (value_at s))
-
-pub value-here : (s : Trees) (v : Coded) → IsIn s v → IsValue s v (value_at s v)
-value-here s v h = (h, refl)
 
 -- ---- what is found, from either side
 pub found-some : (s : Trees) (f : Option Coded) (x : Option Value) (v : Coded) → IsFound s f x → f ≡ Some v → (y : Value) × (x ≡ Some y) × IsValue s v y
@@ -83,6 +59,7 @@ found-none s None None h e = refl
 found-none s None (Some x) h e = absurd h
 found-none s (Some v) x h e = absurd (cc)
 
+-- ---- the sentence that is found, from either side
 pub sentence-some : (s : Trees) (f : Option SentId) (x : Option Sent) (p : SentId) → IsSentenceOf s f x → f ≡ Some p → (y : Sent) × (x ≡ Some y) × IsSent s p.0 y
 sentence-some s None x p h e = absurd (cc)
 sentence-some s (Some q) None p h e = absurd h
@@ -92,3 +69,27 @@ pub sentence-none : (s : Trees) (f : Option SentId) (x : Option Sent) → IsSent
 sentence-none s None None h e = refl
 sentence-none s None (Some x) h e = absurd h
 sentence-none s (Some p) x h e = absurd (cc)
+
+-- ---- the sort Boolean
+with_boolean : (c : Sym) (args : List Sort) → same_sort (Con c args) boolean ≡ (c.0 == 0 && all_pass (map same_sort args) [])
+with_boolean c args =
+    ap (λ s. same_sort s boolean) (sym (rolls-Con c args))
+    ∙ ap (λ (k : Sort → Bool). k boolean) (fold-roll-Sort (Sort → Bool) (λ x t. same_step x (out-Sort t)) (one.Con c args))
+    ∙ ap (same_step (one.Con c (map same_sort args))) (outs-Con (record { 0 = 0 }) [])
+
+-- a sort whose constructor is that of Boolean
+pub boolean_con : (c : Sym) (args : List Sort) (b : Bool) → b ≡ (length args == 0) → c.0 ≡ 0 → b ≡ same_sort (Con c args) boolean
+boolean_con c [] b e h = rw (with_boolean c [], h, e) refl
+boolean_con c (s ∷ ss) b e h =
+    let one_more : (length (s ∷ ss) == 0) ≡ false = grind (arith, common_steps) in
+    rw (with_boolean c (s ∷ ss), h, e ∙ one_more) refl
+
+has_sort : (sig : Signature) (x : Term) (r q : Sort) → r ≡ q → HasSort sig x q → HasSort sig x r
+has_sort sig x r q p h = rw p h
+
+-- the atom of a term whose kept sort is Boolean
+pub boolean_atom : (sig : Signature) (s : Trees) (v : Coded) (t : TermId) (kept : Sort) (passed : Bool) → IsSortedIn sig s → IsIn s v → v ≡ code.Term t → kept ≡ sort_at s.sorts t.0 → passed ≡ same_sort kept boolean → passed ≡ true → IsWellSorted sig (atom (term_at s.terms t.0))
+boolean_atom sig s v t kept passed h inside is k e p =
+    let b = sym (same_sort-true kept boolean (sym e ∙ p)) ∙ k in
+    let below : IsIn s (code.Term t) = rw is at inside in
+    has_sort sig (term_at s.terms t.0) boolean (sort_at s.sorts t.0) b (h.terms t.0 below)

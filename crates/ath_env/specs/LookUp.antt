@@ -7,8 +7,7 @@ use Rattle.ath_sorts.specs.declared.signature.Symbol.{Symbol}
 use Rattle.ath_sorts.specs.Signature.{Signature, symbol_of}
 use Rattle.ath_terms.specs.declared.node.Conn.TheVariants.{Not, And, Or, If, Iff}
 use Rattle.ath_terms.specs.declared.node.Quant.TheVariants.{Forall, Exists}
-use Rattle.ath_terms.specs.Tree.{constant}
-use Rattle.ath_env.specs.Values.{Value, a_term, a_symbol, a_connective, a_quantifier, a_back, a_method}
+use Rattle.ath_env.specs.Values.{Value, a_symbol, a_connective, a_quantifier, a_back, a_method}
 
 abbrev pub equality : Sym
 equality = record { 0 = 3 }
@@ -35,9 +34,8 @@ text_of names n = slice_index_or names n.0 []
 
 -- a declared name stands before one that every script begins with
 abbrev pub found_value : List (List ℕ) → Sym → Option Symbol → Option Value
-found_value names x (Some symbol) = Some (a_term (constant x))
+found_value names x (Some symbol) = Some (a_symbol x)
 found_value names x None = lookup (bytes_eq (text_of names x)) first_values
 
--- A symbol is its constant: each symbol is one yet.
 abbrev pub looked_up : List (List ℕ) → Signature → Sym → Option Value
 looked_up names sig x = found_value names x (symbol_of sig x)

@@ -1,18 +1,22 @@
 -- Values as trees, and what the code's values stand for.
-use Rattle.std.specs.Prelude.{◌≡◌, ℕ, ◌<◌, List, Option, Some, None, length, map}
+use Rattle.std.specs.Prelude.{◌≡◌, ℕ, ◌<◌, List, Option, Some, None, length, map, if◌then◌else◌}
 use Rattle.std.specs.List.{All}
 use Rattle.ath_sorts.specs.declared.sorts.Sym.{Sym}
+use Rattle.ath_sorts.specs.declared.sorts.Sort.{Sort}
+use Rattle.ath_sorts.specs.Signature.{boolean}
+use Rattle.ath_sorts.specs.Unifiers.{same_sort}
 use Rattle.ath_terms.specs.declared.node.Conn.{Conn as Connective}
 use Rattle.ath_terms.specs.declared.node.Quant.{Quant as Quantifier}
 use Rattle.ath_terms.specs.declared.node.SentId.{SentId}
 use Rattle.ath_terms.specs.Tree.{Term, Sent, atom}
-use Rattle.ath_terms.specs.Trees.{Trees, term_at, sent_at, IsSent}
+use Rattle.ath_terms.specs.Trees.{Trees, term_at, sort_at, sent_at, IsSent}
 use Rattle.ath_env.specs.declared.value.Value.{Value as Coded}
 use Rattle.ath_env.specs.declared.value.Value.TheVariants as code
 
 -- a sentence that is a value by itself is no atom: an atom is the value of its term
 pub data Value : Type 0 where
-  a_term : Term → Value
+  -- a term with its sort
+  a_term : Term → Sort → Value
   a_sentence : Sent → Value
   a_symbol : Sym → Value
   a_connective : Connective → Value
@@ -22,9 +26,19 @@ pub data Value : Type 0 where
   -- a primitive method, by its number
   a_method : ℕ → Value
 
--- the sentence that a value is, where it is one: each term is a constant of sort Boolean yet
+-- the term that a value is, where it is one
+abbrev pub term_of : Value → Option Term
+term_of (a_term t r) = Some t
+term_of (a_sentence p) = None
+term_of (a_symbol f) = None
+term_of (a_connective c) = None
+term_of (a_quantifier q) = None
+term_of a_back = None
+term_of (a_method n) = None
+
+-- the sentence that a value is, where it is one: a term is one exactly where its sort is Boolean
 abbrev pub sentence_of : Value → Option Sent
-sentence_of (a_term t) = Some (atom t)
+sentence_of (a_term t r) = if same_sort r boolean then Some (atom t) else None
 sentence_of (a_sentence p) = Some p
 sentence_of (a_symbol f) = None
 sentence_of (a_connective c) = None
@@ -33,7 +47,7 @@ sentence_of a_back = None
 sentence_of (a_method n) = None
 
 abbrev pub value_at : Trees → Coded → Value
-value_at s (code.Term t) = a_term (term_at s.terms t.0)
+value_at s (code.Term t) = a_term (term_at s.terms t.0) (sort_at s.sorts t.0)
 value_at s (code.Sent p) = a_sentence (sent_at s.sents p.0)
 value_at s (code.Symbol f) = a_symbol f
 value_at s (code.Conn c) = a_connective c

@@ -1,18 +1,16 @@
 // The value that a name finds.
 
-ghost use Rattle.std.specs.Prelude.{◌≡◌, Option, IfOk, map};
+ghost use Rattle.std.specs.Prelude.{◌≡◌, Option, map};
 ghost use Rattle.std.specs.Map.{lookup};
 ghost use Rattle.std.specs.Str.{bytes_eq};
-ghost use Rattle.ath_terms.specs.Trees.{Trees, Grows};
+ghost use Rattle.ath_terms.specs.Trees.{Trees};
 ghost use Rattle.ath_env.specs.LookUp.{looked_up, first_values, text_of};
 ghost use Rattle.ath_env.specs.Values.{IsFound};
 
 use crate::value::Value;
 use ath_names::Names;
 use ath_sorts::{Signature, Sym};
-use ath_terms::{Conn, Quant, Store, TermNode};
-use sqlite_items::Items;
-use std::alloc::{AllocError, Global};
+use ath_terms::{Conn, Quant};
 
 const FIRST_VALUES: [(&str, Value); 11] = [
     ("claim", Value::PrimMethod(0)),
@@ -56,21 +54,12 @@ pub fn text_of(names: &Names, name: Sym) -> &str
     ""
 }
 
-/// The value that a name finds: the constant of a declared symbol, or what every script begins with under this name.
-pub fn look_up(
-    alloc: Global,
-    names: &Names,
-    sig: &Signature,
-    store: &mut Store,
-    name: Sym,
-) -> Result<Option<Value>, AllocError>
-    ensures grows { Grows store.old store.new }
-    ensures found { IfOk result (λ found. IsFound store.new found (looked_up names.now sig.now name)) }
+/// The value that a name finds: a declared symbol, or what every script begins with under this name.
+pub fn look_up(names: &Names, sig: &Signature, name: Sym) -> Option<Value>
+    ensures { (s : Trees) → IsFound s result (looked_up names.now sig.now name) }
 {
     if sig.symbol(name).is_some() {
-        let node = TermNode::App(name, Items::new(alloc), Items::new(alloc));
-        let constant = store.add_term(node)?;
-        return Ok(Some(Value::Term(constant)));
+        return Some(Value::Symbol(name));
     }
-    Ok(first_value(text_of(names, name)))
+    first_value(text_of(names, name))
 }

@@ -1,7 +1,11 @@
+ghost use Rattle.std.specs.Prelude.{IfOk};
+ghost use Rattle.ath_env.specs.Values.{IsIn};
+
 use super::*;
 use ath_names::Names;
-use ath_sorts::{Signature, Sym};
-use ath_terms::{Conn, Store};
+use ath_sorts::{Signature, Sort, Sym};
+use ath_terms::{Conn, Store, TermNode};
+use sqlite_items::Items;
 use std::process::Abort;
 use std::test::Fail;
 
@@ -10,13 +14,12 @@ fn found(
     rt: &(impl Abort + AllocGlobal),
     names: &mut Names,
     sig: &Signature,
-    store: &mut Store,
     text: &str,
 ) -> Result<Option<Value>, Fail> {
     let alloc = rt.alloc();
     let name = names.intern(alloc, text)?;
     assert!(rt; name < names.len());
-    Ok(look_up(alloc, names, sig, store, Sym(name))?)
+    Ok(look_up(names, sig, Sym(name)))
 }
 
 #[test]
@@ -24,37 +27,48 @@ fn names_find_their_values(rt: HostRuntime) -> Result<(), Fail> {
     let alloc = rt.alloc();
     let mut names = Names::new(alloc)?;
     let sig = Signature::new(alloc)?;
-    let mut store = Store::new(alloc);
-    let claim = found(&rt, &mut names, &sig, &mut store, "claim")?;
+    let claim = found(&rt, &mut names, &sig, "claim")?;
     assert!(rt; matches!(claim, Some(Value::PrimMethod(0))));
-    let implication = found(&rt, &mut names, &sig, &mut store, "if")?;
+    let implication = found(&rt, &mut names, &sig, "if")?;
     assert!(rt; matches!(implication, Some(Value::Conn(Conn::If))));
-    let back = found(&rt, &mut names, &sig, &mut store, "<==")?;
+    let back = found(&rt, &mut names, &sig, "<==")?;
     assert!(rt; matches!(back, Some(Value::Back)));
-    let none = found(&rt, &mut names, &sig, &mut store, "nothing")?;
+    let none = found(&rt, &mut names, &sig, "nothing")?;
     assert!(rt; none.is_none());
-    let truth = found(&rt, &mut names, &sig, &mut store, "true")?;
-    assert!(rt; matches!(truth, Some(Value::Term(_))));
+    let truth = found(&rt, &mut names, &sig, "true")?;
+    assert!(rt; matches!(truth, Some(Value::Symbol(Sym(1)))));
     Ok(())
 }
 
-#[test]
-fn atoms_and_sentences_are_sentences(rt: HostRuntime) -> Result<(), Fail> {
+/// Adds a constant of this sort.
+fn constant(
+    rt: &(impl Abort + AllocGlobal),
+    store: &mut Store,
+    name: usize,
+    sort: usize,
+) -> Result<Value, Fail>
+    ensures { IfOk result (λ value. IsIn store.new value) }
+{
     let alloc = rt.alloc();
-    let names = Names::new(alloc)?;
-    let sig = Signature::new(alloc)?;
+    let node = TermNode::App(Sym(name), Items::new(alloc), Items::new(alloc));
+    let t = store.add_term(node, Sort::Con(Sym(sort), Items::new(alloc)))?;
+    Ok(Value::Term(t))
+}
+
+#[test]
+fn terms_of_sort_boolean_and_sentences_are_sentences(rt: HostRuntime) -> Result<(), Fail> {
+    let alloc = rt.alloc();
     let mut store = Store::new(alloc);
-    assert!(rt; 1 < names.len());
-    let truth = look_up(alloc, &names, &sig, &mut store, Sym(1))?;
-    let Some(value) = truth else {
-        panic!(rt; "no symbol");
-    };
-    let atom = sentence(&mut store, value)?;
+    let truth = constant(&rt, &mut store, 1, 0)?;
+    let atom = sentence(&mut store, truth)?;
     let Some(p) = atom else {
         panic!(rt; "no sentence");
     };
     let same = sentence(&mut store, Value::Sent(p))?;
     assert_eq!(rt; same, Some(p));
+    let zero = constant(&rt, &mut store, 5, 4)?;
+    let none = sentence(&mut store, zero)?;
+    assert_eq!(rt; none, None);
     let method = sentence(&mut store, Value::PrimMethod(1))?;
     assert_eq!(rt; method, None);
     Ok(())

@@ -1,10 +1,14 @@
 // Values.
 
 ghost use Rattle.std.specs.Prelude.{◌≡◌, Option, IfOk};
+ghost use Rattle.ath_sorts.specs.Signature.{Signature, boolean};
+ghost use Rattle.ath_sorts.specs.Unifiers.{same_sort};
 ghost use Rattle.ath_terms.specs.Trees.{Grows};
+ghost use Rattle.ath_terms.specs.SortsIn.{IsSortedIn};
 ghost use Rattle.ath_env.specs.Values.{IsIn, value_at, sentence_of, IsSentenceOf};
 
-use ath_sorts::Sym;
+use ath_sorts::sorts::BOOLEAN;
+use ath_sorts::{Sort, Sym};
 use ath_terms::{Conn, Quant, SentId, SentNode, Store, TermId};
 use std::alloc::AllocError;
 
@@ -23,14 +27,28 @@ pub enum Value {
     PrimMethod(u32),
 }
 
-/// The sentence that a value is, where it is one: a sentence, or the atom of a term.
+/// Whether the sort is Boolean.
+fn is_boolean(sort: &Sort) -> bool
+    ensures { result ≡ same_sort sort.now boolean }
+{
+    match sort {
+        Sort::Var(_) => false,
+        Sort::Con(name, args) => name.0 == BOOLEAN.0 && args.as_slice().is_empty(),
+    }
+}
+
+/// The sentence that a value is, where it is one: a sentence, or the atom of a term of sort Boolean.
 pub fn sentence(store: &mut Store, value: Value) -> Result<Option<SentId>, AllocError>
     requires { IsIn store.old value }
     ensures grows { Grows store.old store.new }
+    ensures sorted { (sig : Signature) → IsSortedIn sig store.old → IsSortedIn sig store.new }
     ensures sentence { IfOk result (λ found. IsSentenceOf store.new found (sentence_of (value_at store.old value))) }
 {
     match value {
         Value::Term(t) => {
+            if !is_boolean(store.sort_of(t)) {
+                return Ok(None);
+            }
             let p = store.add_sent(SentNode::Atom(t))?;
             Ok(Some(p))
         }

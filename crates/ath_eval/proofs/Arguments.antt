@@ -1,12 +1,14 @@
 -- Values as arguments, while the store grows.
 use Rattle.std.proofs.Common.{◌≡◌, ◌<◌, List, [], ◌∷◌, ◌++◌, length, get_or, Option, Some, None, refl, sym, ap, ◌∙◌, subst, arith}
+use Rattle.std.specs.List.{All}
+use Rattle.std.proofs.lemmas.List.Elements.{All-nil, All-cons}
 use Rattle.ath_terms.specs.declared.node.SentId.{SentId}
 use Rattle.ath_terms.specs.Tree.{Sent}
 use Rattle.ath_terms.specs.Trees.{Trees, sent_at, Grows}
 use Rattle.ath_env.specs.declared.value.Value as value
 use Rattle.ath_env.specs.declared.value.Value.TheVariants.{Term, Sent as Sentence, Symbol, Conn, Quant, Back, PrimMethod}
-use Rattle.ath_env.specs.Values.{Value, IsIn, value_at, IsSentenceOf}
-use Rattle.ath_eval.specs.Arguments.{IsSmallValue, IsArgument, IsGood, AreArguments}
+use Rattle.ath_env.specs.Values.{Value, a_term, IsIn, value_at, IsSentenceOf}
+use Rattle.ath_eval.specs.Arguments.{IsSmallValue, IsArgument, IsGood, AreArguments, values_at}
 
 module _ (s t : Trees) (g : Grows s t) where
   pub in_grows : (v : value.Value) → IsIn s v → IsIn t v
@@ -19,7 +21,7 @@ module _ (s t : Trees) (g : Grows s t) where
   in_grows (PrimMethod n) h = tt
 
   pub value_grows : (v : value.Value) → IsIn s v → value_at t v ≡ value_at s v
-  value_grows (Term i) h = rw (g.same_terms i.0 h) refl
+  value_grows (Term i) h = λ k. a_term (g.same_terms i.0 h k) (g.same_sorts i.0 h k)
   value_grows (Sentence i) h = rw (g.same_sents i.0 h) refl
   value_grows (Symbol f) h = refl
   value_grows (Conn c) h = refl
@@ -83,6 +85,18 @@ module _ (s : Trees) where
   two_arguments (v ∷ w ∷ []) [] d e n h = absurd h
   two_arguments (v ∷ w ∷ []) (x ∷ []) d e n h = absurd h.1
   two_arguments (v ∷ w ∷ []) (x ∷ y ∷ z ∷ xs) d e n h = absurd h.1.1
+
+  pub values_are : (vs : List value.Value) (xs : List Value) → AreArguments s vs xs → xs ≡ values_at s vs
+  values_are [] [] h = refl
+  values_are (v ∷ vs) (x ∷ xs) h = λ i. sym h.0.0.1 i ∷ values_are vs xs h.1 i
+  values_are [] (x ∷ xs) h = absurd h
+  values_are (v ∷ vs) [] h = absurd h
+
+  pub good_all : (vs : List value.Value) (xs : List Value) → AreArguments s vs xs → All (IsGood s) vs
+  good_all [] [] h = All-nil (IsGood s)
+  good_all (v ∷ vs) (x ∷ xs) h = All-cons (IsGood s) v vs (good_argument v x h.0) (good_all vs xs h.1)
+  good_all [] (x ∷ xs) h = absurd h
+  good_all (v ∷ vs) [] h = absurd h
 
   -- the sentence that is found
   pub sentence_some : (found : Option SentId) (p : SentId) (x : Option Sent) → found ≡ Some p → IsSentenceOf s found x → x ≡ Some (sent_at s.sents p.0)

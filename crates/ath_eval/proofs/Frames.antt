@@ -6,7 +6,7 @@ use Rattle.std.proofs.lemmas.Option.{slice_get_within, get_or_from_slice_get}
 use Rattle.ath_syntax.specs.Nodes.{Nodes}
 use Rattle.ath_terms.specs.Trees.{Trees, Grows}
 use Rattle.ath_eval.specs.declared.frame.Frame.{Frame}
-use Rattle.ath_eval.specs.declared.frame.Frame.TheVariants.{Head, Argument}
+use Rattle.ath_eval.specs.declared.frame.Frame.TheVariants.{Head, Argument, Ascription}
 use Rattle.ath_eval.specs.Machine.{Fills, Resumes}
 use Rattle.ath_eval.specs.Outcomes.{Context, Outcome}
 use Rattle.ath_eval.proofs.Arguments.{argument_grows, arguments_grow}
@@ -33,7 +33,8 @@ module _ (c : Context) (nodes : Nodes) where
   module _ (s t : Trees) (g : Grows s t) where
     grow_fills : (f : Frame) (r out : Outcome) → Fills c nodes s f r out → Fills c nodes t f r out
     grow_fills (Head i levels) r out h = h
-    grow_fills (Argument i v done levels) r out (x, w, vs, rest, isp, isv, all, phrases, q) = (x, w, vs, rest, isp, argument_grows s t g v w isv, arguments_grow s t g done vs all, phrases, q)
+    grow_fills (Argument i v done levels) r out (x, w, vs, rest, isp, isv, all, few, phrases, q) = (x, w, vs, rest, isp, argument_grows s t g v w isv, arguments_grow s t g done vs all, few, phrases, q)
+    grow_fills (Ascription i) r out h = h
 
     pub grow_resumes : (fs : List Frame) (r out : Outcome) → Resumes c nodes s fs r out → Resumes c nodes t fs r out
     grow_resumes [] r out h = h

@@ -1,97 +1,162 @@
--- Conclusions have derivations, and the sentences that expressions give are well-sorted.
-use Rattle.std.proofs.Common.{◌≡◌, ◌==◌, ◌⊎◌, ℕ, Bool, true, false, cond, List, [], ◌∷◌, ◌++◌, Option, Some, None, refl, sym, ◌∙◌, ap, subst, inl, inr, if◌then◌else◌, arith}
-use Rattle.std.proofs.lemmas.Grind.{common_steps}
+-- Conclusions have derivations, and what expressions give is well-sorted.
+use Rattle.std.proofs.Common.{◌≡◌, ◌⊎◌, ℕ, suc, Bool, true, false, cond, List, [], ◌∷◌, ◌++◌, length, Option, Some, None, refl, sym, ◌∙◌, ap, subst, inl, inr, if◌then◌else◌}
+use Rattle.std.specs.Prelude.{Ok}
+use Rattle.std.specs.List.{AllByRecursion}
 use Rattle.std.specs.Map.{lookup}
 use Rattle.std.specs.Str.{bytes_eq}
 use Rattle.ath_sorts.specs.declared.sorts.Sym.{Sym}
+use Rattle.ath_sorts.specs.declared.sorts.SVar.TheVariants.{Made}
+use Rattle.ath_sorts.specs.declared.sorts.Sort.{Sort}
 use Rattle.ath_sorts.specs.declared.signature.Symbol.{Symbol}
-use Rattle.ath_sorts.specs.Sorts.{image}
-use Rattle.ath_sorts.specs.Signature.{Signature, truth_value, symbol_among, symbol_of}
-use Rattle.ath_sorts.proofs.SortLaws.{apply-con}
-use Rattle.ath_terms.specs.declared.node.Conn.TheVariants.{If}
-use Rattle.ath_terms.specs.Tree.{Sent, atom, joined, constant}
-use Rattle.ath_terms.specs.WellSorted.{IsWellSorted, app_has, none_has}
+use Rattle.ath_sorts.specs.Signature.{Signature, arity_of, symbol_of, boolean}
+use Rattle.ath_sorts.specs.Unifiers.{same_sort}
+use Rattle.ath_sorts.specs.Validity.{IsValid}
+use Rattle.ath_sorts.proofs.SameSorts.{same_sort-true}
+use Rattle.ath_syntax.specs.declared.node.SortText.{SortText}
+use Rattle.ath_declarations.specs.Texts.{written_in, meaning}
+use Rattle.ath_declarations.proofs.Keeping.{meant_sort}
+use Rattle.ath_terms.specs.Tree.{Term, Sent, atom}
+use Rattle.ath_terms.specs.WellSorted.{is_valid_sort, HasSort, var_has, IsWellSorted}
+use Rattle.ath_terms.proofs.ValidSorts.{valid-var, use_valid}
+use Rattle.ath_terms.proofs.ApplicationLaws.{found-name}
 use Rattle.ath_calculus.specs.Derives.{Derives, if_elim, IsIn}
 use Rattle.ath_calculus.specs.Laws.{Extends, AreIn}
 use Rattle.ath_calculus.proofs.Grown.{derivation_kept, well_sorted}
-use Rattle.ath_env.specs.Values.{Value, a_term, sentence_of}
+use Rattle.ath_env.specs.Values.{Value, a_term, a_sentence, a_symbol, a_connective, a_quantifier, a_back, a_method, term_of, sentence_of}
 use Rattle.ath_env.specs.LookUp.{text_of, first_values, found_value}
 use Rattle.ath_eval.specs.Outcomes.{Context}
-use Rattle.ath_eval.specs.Laws.{AreTruthValues, IsSoundBase, ConclusionsFollow, ValuesAreSorted}
+use Rattle.ath_eval.specs.Building.{builds, made_app}
+use Rattle.ath_eval.specs.Applying.{Kinds, all_are, wrong_at, and_kind, kinds_of, Part, term_part, sentence_part, part_of}
+use Rattle.ath_eval.specs.Laws.{IsSoundBase, ConclusionsFollow, IsSortedValue, ValuesAreSorted}
 use Rattle.ath_eval.proofs.Regular.{Yields, IsKept, evaluated-regular}
+use Rattle.ath_eval.proofs.Constructed.{IsSorted, own-sort, ascription-sorted, equation-sorted, application-sorted, IsSortedPart, joined-sorted}
 
 -- ---- conclusions
 follows : (c : Context) (asserted : List Sent) → IsSoundBase c.signature asserted c.base → IsKept c (λ v. Unit {0}) (Derives c.signature asserted [])
 follows c asserted sound = record {
   shown = λ p h. tt;
   named = λ x v e. tt;
-  joins = λ v w p q h k e f. tt;
+  unsorted = λ x k n. tt;
+  sorted = λ x k text s e. tt;
+  ascribes = λ v t x text s h is e b. tt;
+  applies = λ f d vs ts n x is h l e b. tt;
+  equates = λ vs s t x h e b. tt;
+  connects = λ k vs xs x h e b. tt;
   held = sound;
   detaches = λ p q d e. if_elim d e;
 }
 
 pub conclusions-follow : ConclusionsFollow
-conclusions-follow = λ c asserted levels x fuel left q sound e.
-    subst (Yields (λ v. Unit {0}) (Derives c.signature asserted [])) e ((evaluated-regular c (λ v. Unit {0}) (Derives c.signature asserted []) (follows c asserted sound) levels x).yields fuel)
+conclusions-follow = λ c asserted levels x fuel left fresh made q sound e.
+    subst (Yields (λ v. Unit {0}) (Derives c.signature asserted [])) e ((evaluated-regular c (λ v. Unit {0}) (Derives c.signature asserted []) (follows c asserted sound) levels x fresh).yields fuel)
 
 -- ---- values
-abbrev IsSorted : Signature → Value → Type 0
-IsSorted sig v = (p : Sent) → sentence_of v ≡ Some p → IsWellSorted sig p
+-- where values have a property, what they are has one
+abbrev AreAll : {T : Type 0} → (T → Type 0) → List Value → List T → Type 0
+AreAll R vs xs = AllByRecursion R xs × (length vs ≡ length xs)
 
-same_number : (m n : ℕ) → (m == n) ≡ true → m ≡ n
-same_number m n e = grind (arith, common_steps)
-
--- a symbol of this name is the constant
-among-truth : (ss : List Symbol) (n : Sym) (d : Symbol) → AreTruthValues ss → symbol_among ss n ≡ Some d → symbol_among ss n ≡ Some (truth_value n)
-among-truth [] n d h e = absurd (cc)
-among-truth (s ∷ ss) n d h e = go (s.name.0 == n.0) (among-truth ss n d h.1) refl e
+all-of : {T : Type 0} (f : Value → Option T) (P : Value → Type 0) (R : T → Type 0) → ((v : Value) (x : T) → P v → f v ≡ Some x → R x) → (i : ℕ) (vs : List Value) (xs : List T) → AllByRecursion P vs → kinds_of f i vs ≡ all_are xs → AreAll R vs xs
+all-of f P R each i [] xs h e = let k : [] ≡ xs = cc in subst (AreAll R []) k (tt, refl)
+all-of f P R each i (v ∷ vs) xs h e = go (f v) (kinds_of f (suc i) vs) (λ x g. each v x h.0 g) (λ ys g. all-of f P R each (suc i) vs ys h.1 g) e
   where
-    go : (b : Bool) → (symbol_among ss n ≡ Some d → symbol_among ss n ≡ Some (truth_value n)) → (s.name.0 == n.0) ≡ b → (if b then Some s else symbol_among ss n) ≡ Some d → (if b then Some s else symbol_among ss n) ≡ Some (truth_value n)
-    go true rec f g = let k = same_number s.name.0 n.0 f in let m : s.name ≡ n = ap (λ i. record { 0 = i }) k in ap Some (h.0 ∙ ap truth_value m)
-    go false rec f g = rec g
+    go : (o : Option _) (k : Kinds _) → ((x : _) → o ≡ Some x → R x) → ((ys : List _) → k ≡ all_are ys → AreAll R vs ys) → and_kind i o k ≡ all_are xs → AreAll R (v ∷ vs) xs
+    go None k a b m = absurd (cc)
+    go (Some x) (wrong_at j) a b m = absurd (cc)
+    go (Some x) (all_are ys) a b m =
+        let r = b ys refl in
+        let k : x ∷ ys ≡ xs = cc in
+        subst (AreAll R (v ∷ vs)) k ((a x refl, r.0), ap suc r.1)
 
-constant-sort : (sig : Signature) (x : Sym) → symbol_of sig x ≡ Some (truth_value x) → IsWellSorted sig (atom (constant x))
-constant-sort sig x e = app_has (truth_value x) e refl refl none_has (sym (apply-con (image []) (record { 0 = 0 }) []))
+-- none of the first values is a term or a sentence
+abbrev AreSorted : Signature → List (List ℕ × Value) → Type 0
+AreSorted sig es = AllByRecursion (λ e. IsSortedValue sig e.1) es
 
--- none of the entries is a sentence
-abbrev HaveNone : List (List ℕ × Value) → Type 0
-HaveNone [] = Unit {0}
-HaveNone (e ∷ es) = (sentence_of e.1 ≡ None) × HaveNone es
-
-lookup-none : (test : List ℕ → Bool) (es : List (List ℕ × Value)) (v : Value) → HaveNone es → lookup test es ≡ Some v → sentence_of v ≡ None
-lookup-none test [] v h e = absurd (cc)
-lookup-none test (a ∷ es) v h e = go (test a.0) (lookup-none test es v h.1) e
+lookup-sorted : (sig : Signature) (test : List ℕ → Bool) (es : List (List ℕ × Value)) (v : Value) → AreSorted sig es → lookup test es ≡ Some v → IsSortedValue sig v
+lookup-sorted sig test [] v h e = absurd (cc)
+lookup-sorted sig test (a ∷ es) v h e = go (test a.0) (lookup-sorted sig test es v h.1) e
   where
-    go : (b : Bool) → (lookup test es ≡ Some v → sentence_of v ≡ None) → cond b (Some a.1) (lookup test es) ≡ Some v → sentence_of v ≡ None
-    go true rec f = let k : a.1 ≡ v = cc in subst (λ w. sentence_of w ≡ None) k h.0
+    go : (b : Bool) → (lookup test es ≡ Some v → IsSortedValue sig v) → cond b (Some a.1) (lookup test es) ≡ Some v → IsSortedValue sig v
+    go true rec f = let k : a.1 ≡ v = cc in subst (IsSortedValue sig) k h.0
     go false rec f = rec f
 
-first-none : HaveNone first_values
-first-none = (refl, (refl, (refl, (refl, (refl, (refl, (refl, (refl, (refl, (refl, (refl, tt)))))))))))
+first-sorted : (sig : Signature) → AreSorted sig first_values
+first-sorted sig = (tt, (tt, (tt, (tt, (tt, (tt, (tt, (tt, (tt, (tt, (tt, tt)))))))))))
 
-found-sorted : (names : List (List ℕ)) (sig : Signature) → AreTruthValues sig.symbols → (x : Sym) (o : Option Symbol) → symbol_of sig x ≡ o → (v : Value) → found_value names x o ≡ Some v → IsSorted sig v
-found-sorted names sig truths x (Some d) e v f = λ p g.
-    let k : a_term (constant x) ≡ v = cc in
-    let l : Some (atom (constant x)) ≡ Some p = ap sentence_of k ∙ g in
-    let m : atom (constant x) ≡ p = cc in
-    subst (IsWellSorted sig) m (constant-sort sig x (among-truth sig.symbols x d truths e))
-found-sorted names sig truths x None e v f = λ p g.
-    let k : sentence_of v ≡ None = lookup-none (bytes_eq (text_of names x)) first_values v first-none f in
-    absurd (cc)
+found-sorted : (names : List (List ℕ)) (sig : Signature) (x : Sym) (o : Option Symbol) (v : Value) → found_value names x o ≡ Some v → IsSortedValue sig v
+found-sorted names sig x (Some d) v f = let k : a_symbol x ≡ v = cc in subst (IsSortedValue sig) k tt
+found-sorted names sig x None v f = lookup-sorted sig (bytes_eq (text_of names x)) first_values v (first-sorted sig) f
 
-sorted : (c : Context) (asserted : List Sent) → AreTruthValues c.signature.symbols → IsSoundBase c.signature asserted c.base → IsKept c (IsSorted c.signature) (Derives c.signature asserted [])
-sorted c asserted truths sound = record {
-  shown = λ p d q e. let k : p ≡ q = cc in subst (IsWellSorted c.signature) k (well_sorted d);
-  named = λ x v e. found-sorted c.names c.signature truths x (symbol_of c.signature x) refl v e;
-  joins = λ v w p q h k e f r g. let l : joined If p q ≡ r = cc in subst (IsWellSorted c.signature) l (h p e, k q f);
-  held = sound;
-  detaches = λ p q d e. if_elim d e;
-}
+module _ (c : Context) (asserted : List Sent) (valid : IsValid c.signature) (there : arity_of c.signature (record { 0 = 0 }) ≡ Some 0) (sound : IsSoundBase c.signature asserted c.base) where
+  abbrev Sorted : Value → Type 0
+  Sorted v = IsSortedValue c.signature v
+
+  abbrev HasOwn : Term → Type 0
+  HasOwn t = IsSorted c.signature valid there t
+
+  abbrev HasOwnPart : Part → Type 0
+  HasOwnPart x = IsSortedPart c.signature valid there x
+
+  term-of : (v : Value) (t : Term) → Sorted v → term_of v ≡ Some t → HasOwn t
+  term-of (a_term t r) u h e = let k : t ≡ u = cc in subst HasOwn k (own-sort c.signature valid there t r h)
+  term-of (a_sentence p) u h e = absurd (cc)
+  term-of (a_symbol f) u h e = absurd (cc)
+  term-of (a_connective q) u h e = absurd (cc)
+  term-of (a_quantifier q) u h e = absurd (cc)
+  term-of a_back u h e = absurd (cc)
+  term-of (a_method n) u h e = absurd (cc)
+
+  part-of : (v : Value) (x : Part) → Sorted v → part_of v ≡ Some x → HasOwnPart x
+  part-of (a_term t r) x h e = let k : term_part t ≡ x = cc in subst HasOwnPart k (own-sort c.signature valid there t r h)
+  part-of (a_sentence p) x h e = let k : sentence_part p ≡ x = cc in subst HasOwnPart k h
+  part-of (a_symbol f) x h e = absurd (cc)
+  part-of (a_connective q) x h e = absurd (cc)
+  part-of (a_quantifier q) x h e = absurd (cc)
+  part-of a_back x h e = absurd (cc)
+  part-of (a_method n) x h e = absurd (cc)
+
+  -- a symbol that is found has its name
+  own-name : (f : Sym) (d : Symbol) → symbol_of c.signature f ≡ Some d → symbol_of c.signature d.name ≡ Some d
+  own-name f d is = ap (symbol_of c.signature) (found-name c.signature.symbols f d is) ∙ is
+
+  application : (d : Symbol) (vs : List Value) (ts : List Term) (n : ℕ) (x : Term) → symbol_of c.signature d.name ≡ Some d → length d.args ≡ length vs → AreAll HasOwn vs ts → made_app c.signature n d ts ≡ builds x → HasOwn x
+  application d vs ts n x is l h b = application-sorted c.signature valid there d n ts is (l ∙ h.1) h.0 x b
+
+  meant-valid : (text : SortText) (s : Sort) → meaning c.signature text ≡ Ok s → is_valid_sort c.signature s ≡ true
+  meant-valid text s e = use_valid c.signature (written_in s) s (meant_sort c.signature text s e).there
+
+  sorted : IsKept c Sorted (Derives c.signature asserted [])
+  sorted = record {
+    shown = λ p d. well_sorted d;
+    named = λ x v e. found-sorted c.names c.signature x (symbol_of c.signature x) v e;
+    unsorted = λ x k n. var_has (valid-var c.signature (Made n)) refl;
+    sorted = λ x k text s e. var_has (meant-valid text s e) refl;
+    ascribes = λ v t x text s h is e b. ascription-sorted c.signature valid there t x s (term-of v t h is) (meant-valid text s e) b;
+    applies = λ f d vs ts n x is h l e b. application d vs ts n x (own-name f d is) l (all-of term_of Sorted HasOwn term-of 1 vs ts h e) b;
+    equates = λ vs s t x h e b. let k = all-of term_of Sorted HasOwn term-of 1 vs (s ∷ t ∷ []) h e in equation-sorted c.signature valid there s t x k.0.0 k.0.1.0 b;
+    connects = λ k vs xs x h e b. joined-sorted c.signature valid there k xs x (all-of part_of Sorted HasOwnPart part-of 1 vs xs h e).0 b;
+    held = sound;
+    detaches = λ p q d e. if_elim d e;
+  }
 
 pub values-sorted : ValuesAreSorted
-values-sorted = λ c asserted levels x fuel left v p truths sound e f.
-    let h = subst (Yields (IsSorted c.signature) (Derives c.signature asserted [])) e ((evaluated-regular c (IsSorted c.signature) (Derives c.signature asserted []) (sorted c asserted truths sound) levels x).yields fuel) in
-    h p f
+values-sorted = λ c asserted levels x fuel left fresh made v valid there sound e.
+    subst (Yields (IsSortedValue c.signature) (Derives c.signature asserted [])) e ((evaluated-regular c (IsSortedValue c.signature) (Derives c.signature asserted []) (sorted c asserted valid there sound) levels x fresh).yields fuel)
+
+-- the sentence that a well-sorted value is, is well-sorted
+pub sentence-sorted : (sig : Signature) (v : Value) (p : Sent) → IsSortedValue sig v → sentence_of v ≡ Some p → IsWellSorted sig p
+sentence-sorted sig (a_term t r) p h e = go (same_sort r boolean) refl e
+  where
+    go : (b : Bool) → same_sort r boolean ≡ b → (if b then Some (atom t) else None) ≡ Some p → IsWellSorted sig p
+    go true f g =
+        let k : atom t ≡ p = cc in
+        subst (IsWellSorted sig) k (subst (HasSort sig t) (same_sort-true r boolean f) h)
+    go false f g = absurd (cc)
+sentence-sorted sig (a_sentence q) p h e = let k : q ≡ p = cc in subst (IsWellSorted sig) k h
+sentence-sorted sig (a_symbol f) p h e = absurd (cc)
+sentence-sorted sig (a_connective q) p h e = absurd (cc)
+sentence-sorted sig (a_quantifier q) p h e = absurd (cc)
+sentence-sorted sig a_back p h e = absurd (cc)
+sentence-sorted sig (a_method n) p h e = absurd (cc)
 
 -- ---- what a session keeps
 -- a sound base stays sound when the signature and the asserted sentences grow
@@ -121,8 +186,3 @@ base_joined sig asserted base q sound d = λ p i. go p (in-last p q base i)
     go : (p : Sent) → IsIn p base ⊎ (p ≡ q) → Derives sig asserted [] p
     go p (inl i) = sound p i
     go p (inr e) = subst (Derives sig asserted []) (sym e) d
-
--- one more constant of sort Boolean
-pub truths_last : (ss : List Symbol) (n : Sym) → AreTruthValues ss → AreTruthValues (ss ++ truth_value n ∷ [])
-truths_last [] n h = (refl, tt)
-truths_last (s ∷ ss) n h = (h.0, truths_last ss n h.1)

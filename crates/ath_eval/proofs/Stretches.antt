@@ -1,13 +1,16 @@
 -- The machine's stretches of work, one by one.
-use Rattle.std.proofs.Common.{◌≡◌, ℕ, zero, suc, ◌+◌, ◌-◌, ◌*◌, ◌<◌, ◌≤◌, List, [], ◌∷◌, ◌++◌, length, drop, Some, None, refl, sym, ap, ◌∙◌, subst, arith, length-append}
+use Rattle.std.proofs.Common.{◌≡◌, ℕ, zero, suc, ◌+◌, ◌-◌, ◌*◌, ◌<◌, ◌≤◌, List, [], ◌∷◌, ◌++◌, length, drop, Option, Some, None, refl, sym, ap, ◌∙◌, subst, arith, length-append}
 use Rattle.std.specs.Prelude.{slice_get}
 use Rattle.ath_sorts.specs.declared.sorts.Sym.{Sym}
 use Rattle.ath_syntax.specs.declared.node.PhraseId.{PhraseId}
-use Rattle.ath_syntax.specs.declared.node.Form.TheVariants.{Name, Apply, Call}
+use Rattle.ath_syntax.specs.declared.node.Form.TheVariants.{Name, Var, Ascribe, Apply, Call}
 use Rattle.ath_syntax.specs.declared.node.Node.{Node}
 use Rattle.ath_syntax.specs.Nodes.{Nodes}
 use Rattle.ath_syntax.specs.Stands.{IsPhrase, ArePhrases, phrases_none, phrases_more}
+use Rattle.ath_syntax.specs.declared.node.SortText.{SortText}
+use Rattle.ath_syntax.specs.Fits.{most}
 use Rattle.ath_syntax.specs.Tree.{Phrase, Phrases}
+use Rattle.ath_terms.specs.declared.fresh.Fresh.{Fresh}
 use Rattle.ath_terms.specs.Trees.{Trees, Grows}
 use Rattle.ath_terms.proofs.Grow.{grows-none}
 use Rattle.ath_env.specs.LookUp.{looked_up}
@@ -15,18 +18,18 @@ use Rattle.ath_env.specs.declared.value.Value as value
 use Rattle.ath_env.specs.Values.{Value}
 use Rattle.ath_print.specs.declared.fault.FaultKind.TheVariants.{TooNested}
 use Rattle.ath_eval.specs.declared.frame.Frame.{Frame}
-use Rattle.ath_eval.specs.declared.frame.Frame.TheVariants.{Head, Argument}
+use Rattle.ath_eval.specs.declared.frame.Frame.TheVariants.{Head, Argument, Ascription}
 use Rattle.ath_eval.specs.declared.frame.State.{State}
 use Rattle.ath_eval.specs.declared.frame.State.TheVariants.{Enter, Done}
 use Rattle.ath_eval.specs.declared.world.Outcome as code
 use Rattle.ath_eval.specs.declared.world.Outcome.TheVariants as ends
 use Rattle.ath_eval.specs.Arguments.{IsArgument, AreArguments}
-use Rattle.ath_eval.specs.Evaluation.{evaluated, form, found, place, unbuilt}
+use Rattle.ath_eval.specs.Evaluation.{evaluated, form, found, variable, ascribed, place, unbuilt}
 use Rattle.ath_eval.specs.Machine.{acts, arguments_at, Resumes, Means, Steps, FormMeans, ArgumentsMean, rank, weight}
-use Rattle.ath_eval.specs.Outcomes.{Context, Outcome, fails, exhausts, refusal, each}
-use Rattle.ath_eval.specs.World.{IsOutcome, IsAnswer}
+use Rattle.ath_eval.specs.Outcomes.{Context, Outcome, fails, exhausts, refusal, and_then, each}
+use Rattle.ath_eval.specs.World.{IsOutcome, IsSteady}
 use Rattle.ath_eval.proofs.Frames.{drop_at, drop_end, resumes_push, grow_resumes}
-use Rattle.ath_eval.proofs.Shapes.{form_here, place_of, form_name, form_other, head_applied, head_called, HeadOf}
+use Rattle.ath_eval.proofs.Shapes.{form_here, place_of, form_name, form_variable, form_other, head_applied, head_called, HeadOf, part_ascribed}
 
 pub rank_below : (o : code.Outcome) → rank (Done o) ≤ 2
 rank_below (ends.Value v) = omega arith
@@ -35,96 +38,108 @@ rank_below (ends.Error at why) = omega arith
 rank_below (ends.Exhausted at) = omega arith
 
 -- a step of fuel
-pub evaluated_empty : (c : Context) (levels : ℕ) (x : Phrase) (fuel : ℕ) → fuel ≡ 0 → evaluated c levels x fuel ≡ exhausts (place x)
-evaluated_empty c zero x zero h = refl
-evaluated_empty c zero x (suc fuel) h = cc
-evaluated_empty c (suc levels) x zero h = refl
-evaluated_empty c (suc levels) x (suc fuel) h = cc
+pub evaluated_empty : (c : Context) (levels : ℕ) (x : Phrase) (fuel : ℕ) (fresh : Fresh) → fuel ≡ 0 → evaluated c levels x fuel fresh ≡ exhausts (place x) fresh
+evaluated_empty c zero x zero fresh h = refl
+evaluated_empty c zero x (suc fuel) fresh h = cc
+evaluated_empty c (suc levels) x zero fresh h = refl
+evaluated_empty c (suc levels) x (suc fuel) fresh h = cc
 
-pub evaluated_deep : (c : Context) (levels : ℕ) (x : Phrase) (fuel : ℕ) → (fuel ≡ 0 → ⊥) → levels ≡ 0 → evaluated c levels x fuel ≡ fails (place x) (refusal TooNested []) (fuel - 1)
-evaluated_deep c zero x zero h k = absurd (h refl)
-evaluated_deep c zero x (suc fuel) h k = let q : suc fuel - 1 ≡ fuel = omega arith in rw q refl
-evaluated_deep c (suc levels) x fuel h k = cc
+pub evaluated_deep : (c : Context) (levels : ℕ) (x : Phrase) (fuel : ℕ) (fresh : Fresh) → (fuel ≡ 0 → ⊥) → levels ≡ 0 → evaluated c levels x fuel fresh ≡ fails (place x) (refusal TooNested []) (fuel - 1) fresh
+evaluated_deep c zero x zero fresh h k = absurd (h refl)
+evaluated_deep c zero x (suc fuel) fresh h k = let q : suc fuel - 1 ≡ fuel = omega arith in rw q refl
+evaluated_deep c (suc levels) x fuel fresh h k = cc
 
-pub evaluated_form : (c : Context) (levels : ℕ) (x : Phrase) (fuel : ℕ) → (fuel ≡ 0 → ⊥) → (levels ≡ 0 → ⊥) → evaluated c levels x fuel ≡ form c (evaluated c (levels - 1)) x (fuel - 1)
-evaluated_form c zero x fuel h k = absurd (k refl)
-evaluated_form c (suc levels) x zero h k = absurd (h refl)
-evaluated_form c (suc levels) x (suc fuel) h k = let q : suc fuel - 1 ≡ fuel = omega arith in let q' : suc levels - 1 ≡ levels = omega arith in rw (q, q') refl
+pub evaluated_form : (c : Context) (levels : ℕ) (x : Phrase) (fuel : ℕ) (fresh : Fresh) → (fuel ≡ 0 → ⊥) → (levels ≡ 0 → ⊥) → evaluated c levels x fuel fresh ≡ form c (evaluated c (levels - 1)) x (fuel - 1) fresh
+evaluated_form c zero x fuel fresh h k = absurd (k refl)
+evaluated_form c (suc levels) x zero fresh h k = absurd (h refl)
+evaluated_form c (suc levels) x (suc fuel) fresh h k = let q : suc fuel - 1 ≡ fuel = omega arith in let q' : suc levels - 1 ≡ levels = omega arith in rw (q, q') refl
 
 module _ (c : Context) (nodes : Nodes) (s : Trees) where
   -- nothing is stored
-  pub steps_same : (before : Outcome → Type 0) (bound fuel : ℕ) (st : State) (fs : List Frame) → weight fuel st fs < bound → ((out : Outcome) → before out → Means c nodes s fuel st fs out) → Steps c nodes s before bound s fuel st fs
-  steps_same before bound fuel st fs lt h = record { grows = grows-none s; means = h; falls = lt }
+  pub steps_same : (before : Outcome → Type 0) (bound fuel : ℕ) (made : Fresh) (st : State) (fs : List Frame) → weight fuel st fs < bound → ((out : Outcome) → before out → Means c nodes s fuel made st fs out) → Steps c nodes s before bound s fuel made st fs
+  steps_same before bound fuel made st fs lt h = record { grows = grows-none s; means = h; falls = lt }
 
   -- an outcome, for which the store has grown
-  pub steps_done : (before : Outcome → Type 0) (bound : ℕ) (t : Trees) (fuel : ℕ) (o : code.Outcome) (fs : List Frame) → Grows s t → 4 * fuel + 2 * length fs + 2 < bound → ((out : Outcome) → before out → (r : Outcome) × IsOutcome t fuel o r × Resumes c nodes s fs r out) → Steps c nodes s before bound t fuel (Done o) fs
-  steps_done before bound t fuel o fs g lt h = record {
+  pub steps_done : (before : Outcome → Type 0) (bound : ℕ) (t : Trees) (fuel : ℕ) (made : Fresh) (o : code.Outcome) (fs : List Frame) → Grows s t → 4 * fuel + 2 * length fs + 2 < bound → ((out : Outcome) → before out → (r : Outcome) × IsOutcome t fuel made o r × Resumes c nodes s fs r out) → Steps c nodes s before bound t fuel made (Done o) fs
+  steps_done before bound t fuel made o fs g lt h = record {
     grows = g;
     means = λ out m. let k = h out m in (k.0, k.1, grow_resumes c nodes s t g fs k.0 out k.2);
     falls = omega (arith, rank_below o);
   }
 
   -- a frame is pushed for a part
-  pub steps_push : (before : Outcome → Type 0) (bound fuel : ℕ) (j : PhraseId) (levels : ℕ) (fs : List Frame) (f : Frame) (gs : List Frame) → gs ≡ fs ++ f ∷ [] → 4 * fuel + 2 * length fs + 3 < bound → ((out : Outcome) → before out → Means c nodes s fuel (Enter j levels) (fs ++ f ∷ []) out) → Steps c nodes s before bound s fuel (Enter j levels) gs
-  steps_push before bound fuel j levels fs f gs e lt h = rw e (steps_same before bound fuel (Enter j levels) (fs ++ f ∷ []) (omega (arith, length-append fs (f ∷ []))) h)
+  pub steps_push : (before : Outcome → Type 0) (bound fuel : ℕ) (fresh : Fresh) (j : PhraseId) (levels : ℕ) (fs : List Frame) (f : Frame) (gs : List Frame) → gs ≡ fs ++ f ∷ [] → 4 * fuel + 2 * length fs + 3 < bound → ((out : Outcome) → before out → Means c nodes s fuel fresh (Enter j levels) (fs ++ f ∷ []) out) → Steps c nodes s before bound s fuel fresh (Enter j levels) gs
+  steps_push before bound fuel fresh j levels fs f gs e lt h = rw e (steps_same before bound fuel fresh (Enter j levels) (fs ++ f ∷ []) (omega (arith, length-append fs (f ∷ []))) h)
 
   -- the rest of the work is a callee's
-  pub steps_after : (before mid : Outcome → Type 0) (bound bound' : ℕ) (t : Trees) (fuel : ℕ) (st : State) (fs : List Frame) → bound' ≤ bound → ((out : Outcome) → before out → mid out) → Steps c nodes s mid bound' t fuel st fs → Steps c nodes s before bound t fuel st fs
-  steps_after before mid bound bound' t fuel st fs le h k = record { grows = k.grows; means = λ out m. k.means out (h out m); falls = omega (arith, k.falls) }
+  pub steps_after : (before mid : Outcome → Type 0) (bound bound' : ℕ) (t : Trees) (fuel : ℕ) (made : Fresh) (st : State) (fs : List Frame) → bound' ≤ bound → ((out : Outcome) → before out → mid out) → Steps c nodes s mid bound' t fuel made st fs → Steps c nodes s before bound t fuel made st fs
+  steps_after before mid bound bound' t fuel made st fs le h k = record { grows = k.grows; means = λ out m. k.means out (h out m); falls = omega (arith, k.falls) }
 
-  module _ (i : PhraseId) (fs : List Frame) (out : Outcome) where
+  module _ (fresh : Fresh) (i : PhraseId) (fs : List Frame) (out : Outcome) where
     module _ (n : Node) (at : slice_get nodes.phrases i.0 ≡ Some n) where
       place_here : (x : Phrase) → IsPhrase nodes i x → place x ≡ n.pos
       place_here x isp = place_of nodes n.pos n.form x (form_here nodes i n x isp at)
 
-      pub enters_empty : (levels fuel : ℕ) → fuel ≡ 0 → Means c nodes s fuel (Enter i levels) fs out → Means c nodes s fuel (Done (ends.Exhausted n.pos)) fs out
+      pub enters_empty : (levels fuel : ℕ) → fuel ≡ 0 → Means c nodes s fuel fresh (Enter i levels) fs out → Means c nodes s fuel fresh (Done (ends.Exhausted n.pos)) fs out
       enters_empty levels fuel z (x, isp, res) =
-          (exhausts n.pos, (refl, z), subst (λ (r : Outcome). Resumes c nodes s fs r out) (evaluated_empty c levels x fuel z ∙ ap exhausts (place_here x isp)) res)
+          (exhausts n.pos fresh, (refl, z, refl), subst (λ (r : Outcome). Resumes c nodes s fs r out) (evaluated_empty c levels x fuel fresh z ∙ ap (λ p. exhausts p fresh) (place_here x isp)) res)
 
-      pub enters_deep : (levels fuel : ℕ) → (fuel ≡ 0 → ⊥) → levels ≡ 0 → (o : code.Outcome) → IsAnswer s o (fails n.pos (refusal TooNested [])) → Means c nodes s fuel (Enter i levels) fs out → Means c nodes s (fuel - 1) (Done o) fs out
+      pub enters_deep : (levels fuel : ℕ) → (fuel ≡ 0 → ⊥) → levels ≡ 0 → (o : code.Outcome) → IsSteady s o (fails n.pos (refusal TooNested [])) → Means c nodes s fuel fresh (Enter i levels) fs out → Means c nodes s (fuel - 1) fresh (Done o) fs out
       enters_deep levels fuel z d o h (x, isp, res) =
-          (fails n.pos (refusal TooNested []) (fuel - 1), h (fuel - 1), subst (λ (r : Outcome). Resumes c nodes s fs r out) (evaluated_deep c levels x fuel z d ∙ ap (λ p. fails p (refusal TooNested []) (fuel - 1)) (place_here x isp)) res)
+          (fails n.pos (refusal TooNested []) (fuel - 1) fresh, h fresh (fuel - 1), subst (λ (r : Outcome). Resumes c nodes s fs r out) (evaluated_deep c levels x fuel fresh z d ∙ ap (λ p. fails p (refusal TooNested []) (fuel - 1) fresh) (place_here x isp)) res)
 
       module _ (levels fuel : ℕ) where
-        here : (x : Phrase) → IsPhrase nodes i x → Resumes c nodes s fs (form c (evaluated c levels) x fuel) out → (r : ℕ → Outcome) → form c (evaluated c levels) x ≡ r → Resumes c nodes s fs (r fuel) out
-        here x isp res r e = subst (λ (q : Outcome). Resumes c nodes s fs q out) (ap (λ (q : ℕ → Outcome). q fuel) e) res
+        here : (x : Phrase) → IsPhrase nodes i x → Resumes c nodes s fs (form c (evaluated c levels) x fuel fresh) out → (r : ℕ → Fresh → Outcome) → form c (evaluated c levels) x ≡ r → Resumes c nodes s fs (r fuel fresh) out
+        here x isp res r e = subst (λ (q : Outcome). Resumes c nodes s fs q out) (ap (λ (q : ℕ → Fresh → Outcome). q fuel fresh) e) res
 
-        pub form_named : (name : Sym) → n.form ≡ Name name → FormMeans c nodes s fuel i levels fs out → Resumes c nodes s fs (found name n.pos (looked_up c.names c.signature name) fuel) out
-        form_named name e (x, isp, res) = here x isp res (found name n.pos (looked_up c.names c.signature name)) (form_name nodes c (evaluated c levels) n.pos n.form x name e (form_here nodes i n x isp at))
+        pub form_named : (name : Sym) → n.form ≡ Name name → FormMeans c nodes s fuel fresh i levels fs out → Resumes c nodes s fs (found c name n.pos (looked_up c.names c.signature name) fuel fresh) out
+        form_named name e (x, isp, res) = here x isp res (found c name n.pos (looked_up c.names c.signature name)) (form_name nodes c (evaluated c levels) n.pos n.form x name e (form_here nodes i n x isp at))
 
-        pub form_unbuilt : ((k : Sym) → n.form ≡ Name k → ⊥) → ((j : PhraseId) (is : List PhraseId) → n.form ≡ Apply j is → ⊥) → ((j : PhraseId) (is : List PhraseId) → n.form ≡ Call j is → ⊥) → FormMeans c nodes s fuel i levels fs out → Resumes c nodes s fs (unbuilt n.pos fuel) out
-        form_unbuilt nn na nc (x, isp, res) = here x isp res (unbuilt n.pos) (form_other nodes c (evaluated c levels) n.pos n.form x nn na nc (form_here nodes i n x isp at))
+        pub form_varied : (name : Sym) (k : ℕ) (text : Option SortText) → n.form ≡ Var name k text → FormMeans c nodes s fuel fresh i levels fs out → Resumes c nodes s fs (variable c name k text n.pos fuel fresh) out
+        form_varied name k text e (x, isp, res) = here x isp res (variable c name k text n.pos) (form_variable nodes c (evaluated c levels) n.pos n.form x name k text e (form_here nodes i n x isp at))
 
-        head_pushed : (j : PhraseId) (x : Phrase) → IsPhrase nodes i x → HeadOf nodes c (evaluated c levels) j x → Resumes c nodes s fs (form c (evaluated c levels) x fuel) out → Means c nodes s fuel (Enter j levels) (fs ++ Head i levels ∷ []) out
+        pub form_ascribed : (j : PhraseId) (text : SortText) → n.form ≡ Ascribe j text → FormMeans c nodes s fuel fresh i levels fs out → Means c nodes s fuel fresh (Enter j levels) (fs ++ Ascription i ∷ []) out
+        form_ascribed j text e (x, isp, res) =
+            let k = part_ascribed nodes c (evaluated c levels) n.pos n.form x j text e (form_here nodes i n x isp at) in (
+              k.0,
+              k.1,
+              resumes_push c nodes s fs (Ascription i) (evaluated c levels k.0 fuel fresh) (and_then (evaluated c levels k.0 fuel fresh) (λ v left made. ascribed c text v n.pos left made)) out
+                  (n.pos, k.0, text, subst (λ (y : Phrase). IsPhrase nodes i y) k.2 isp, refl) (subst (λ (y : Phrase). Resumes c nodes s fs (form c (evaluated c levels) y fuel fresh) out) k.2 res),
+            )
+
+        pub form_unbuilt : ((k : Sym) → n.form ≡ Name k → ⊥) → ((x : Sym) (k : ℕ) (text : Option SortText) → n.form ≡ Var x k text → ⊥) → ((j : PhraseId) (text : SortText) → n.form ≡ Ascribe j text → ⊥) → ((j : PhraseId) (is : List PhraseId) → n.form ≡ Apply j is → ⊥) → ((j : PhraseId) (is : List PhraseId) → n.form ≡ Call j is → ⊥) → FormMeans c nodes s fuel fresh i levels fs out → Resumes c nodes s fs (unbuilt n.pos fuel fresh) out
+        form_unbuilt nn nv ns na nc (x, isp, res) = here x isp res (unbuilt n.pos) (form_other nodes c (evaluated c levels) n.pos n.form x nn nv ns na nc (form_here nodes i n x isp at))
+
+        head_pushed : (j : PhraseId) (x : Phrase) → IsPhrase nodes i x → HeadOf nodes c (evaluated c levels) j x → Resumes c nodes s fs (form c (evaluated c levels) x fuel fresh) out → Means c nodes s fuel fresh (Enter j levels) (fs ++ Head i levels ∷ []) out
         head_pushed j x isp (h, ish, e) res =
-            (h, ish, resumes_push c nodes s fs (Head i levels) (evaluated c levels h fuel) _ out (x, isp, refl) (subst (λ (q : Outcome). Resumes c nodes s fs q out) (e fuel) res))
+            (h, ish, resumes_push c nodes s fs (Head i levels) (evaluated c levels h fuel fresh) _ out (x, isp, refl) (subst (λ (q : Outcome). Resumes c nodes s fs q out) (e fuel fresh) res))
 
-        pub form_applied : (j : PhraseId) (is : List PhraseId) → n.form ≡ Apply j is → FormMeans c nodes s fuel i levels fs out → Means c nodes s fuel (Enter j levels) (fs ++ Head i levels ∷ []) out
+        pub form_applied : (j : PhraseId) (is : List PhraseId) → n.form ≡ Apply j is → FormMeans c nodes s fuel fresh i levels fs out → Means c nodes s fuel fresh (Enter j levels) (fs ++ Head i levels ∷ []) out
         form_applied j is e (x, isp, res) = head_pushed j x isp (head_applied nodes c (evaluated c levels) n.pos n.form x j is e (form_here nodes i n x isp at)) res
 
-        pub form_called : (j : PhraseId) (is : List PhraseId) → n.form ≡ Call j is → FormMeans c nodes s fuel i levels fs out → Means c nodes s fuel (Enter j levels) (fs ++ Head i levels ∷ []) out
+        pub form_called : (j : PhraseId) (is : List PhraseId) → n.form ≡ Call j is → FormMeans c nodes s fuel fresh i levels fs out → Means c nodes s fuel fresh (Enter j levels) (fs ++ Head i levels ∷ []) out
         form_called j is e (x, isp, res) = head_pushed j x isp (head_called nodes c (evaluated c levels) n.pos n.form x j is e (form_here nodes i n x isp at)) res
 
-    pub enters_form : (levels fuel : ℕ) → (fuel ≡ 0 → ⊥) → (levels ≡ 0 → ⊥) → Means c nodes s fuel (Enter i levels) fs out → FormMeans c nodes s (fuel - 1) i (levels - 1) fs out
-    enters_form levels fuel z d (x, isp, res) = (x, isp, subst (λ (r : Outcome). Resumes c nodes s fs r out) (evaluated_form c levels x fuel z d) res)
+    pub enters_form : (levels fuel : ℕ) → (fuel ≡ 0 → ⊥) → (levels ≡ 0 → ⊥) → Means c nodes s fuel fresh (Enter i levels) fs out → FormMeans c nodes s (fuel - 1) fresh i (levels - 1) fs out
+    enters_form levels fuel z d (x, isp, res) = (x, isp, subst (λ (r : Outcome). Resumes c nodes s fs r out) (evaluated_form c levels x fuel fresh z d) res)
 
     -- the arguments
     module _ (h : value.Value) (done : List value.Value) (levels fuel : ℕ) where
-      each_end : (vs : List Value) (rest : Phrases) (go : List Value → ℕ → Outcome) → ArePhrases nodes [] rest → Resumes c nodes s fs (each (evaluated c levels) vs rest go fuel) out → Resumes c nodes s fs (go vs fuel) out
+      each_end : (vs : List Value) (rest : Phrases) (go : List Value → ℕ → Fresh → Outcome) → ArePhrases nodes [] rest → Resumes c nodes s fs (each (evaluated c levels) vs rest go fuel fresh) out → Resumes c nodes s fs (go vs fuel fresh) out
       each_end vs rest go phrases_none r = r
 
-      pub arguments_done : slice_get (arguments_at nodes i) (length done) ≡ None → ArgumentsMean c nodes s fuel i h done levels fs out → (x : Phrase) × (v : Value) × (vs : List Value) × IsPhrase nodes i x × IsArgument s h v × AreArguments s done vs × Resumes c nodes s fs (acts c x v vs fuel) out
-      arguments_done none (x, v, vs, rest, isp, isv, all, phrases, res) =
+      pub arguments_done : slice_get (arguments_at nodes i) (length done) ≡ None → ArgumentsMean c nodes s fuel fresh i h done levels fs out → (x : Phrase) × (v : Value) × (vs : List Value) × IsPhrase nodes i x × IsArgument s h v × AreArguments s done vs × Resumes c nodes s fs (acts c x v vs fuel fresh) out
+      arguments_done none (x, v, vs, rest, isp, isv, all, few, phrases, res) =
           (x, v, vs, isp, isv, all, each_end vs rest (acts c x v) (subst (λ is. ArePhrases nodes is rest) (drop_end (arguments_at nodes i) (length done) none) phrases) res)
 
-      pub arguments_next : (j : PhraseId) → slice_get (arguments_at nodes i) (length done) ≡ Some j → ArgumentsMean c nodes s fuel i h done levels fs out → Means c nodes s fuel (Enter j levels) (fs ++ Argument i h done levels ∷ []) out
-      arguments_next j some (x, v, vs, rest, isp, isv, all, phrases, res) =
+      pub arguments_next : (j : PhraseId) → slice_get (arguments_at nodes i) (length done) ≡ Some j → length done < most → ArgumentsMean c nodes s fuel fresh i h done levels fs out → Means c nodes s fuel fresh (Enter j levels) (fs ++ Argument i h done levels ∷ []) out
+      arguments_next j some few (x, v, vs, rest, isp, isv, all, le, phrases, res) =
           go rest (subst (λ is. ArePhrases nodes is rest) (drop_at (arguments_at nodes i) (length done) j some) phrases) res
         where
-          go : (rest : Phrases) → ArePhrases nodes (j ∷ drop (length done + 1) (arguments_at nodes i)) rest → Resumes c nodes s fs (each (evaluated c levels) vs rest (acts c x v) fuel) out → Means c nodes s fuel (Enter j levels) (fs ++ Argument i h done levels ∷ []) out
+          go : (rest : Phrases) → ArePhrases nodes (j ∷ drop (length done + 1) (arguments_at nodes i)) rest → Resumes c nodes s fs (each (evaluated c levels) vs rest (acts c x v) fuel fresh) out → Means c nodes s fuel fresh (Enter j levels) (fs ++ Argument i h done levels ∷ []) out
           go rest (phrases_more {t = t} {ts = ts} ist all') r =
-              (t, ist, resumes_push c nodes s fs (Argument i h done levels) (evaluated c levels t fuel) _ out (x, v, vs, ts, isp, isv, all, all', refl) r)
+              (t, ist, resumes_push c nodes s fs (Argument i h done levels) (evaluated c levels t fuel fresh) _ out (x, v, vs, ts, isp, isv, all, few, all', refl) r)
 
 -- what a stretch keeps, at an equal context
-pub carried : (r q : Context) (nodes : Nodes) (s t : Trees) (before : Outcome → Type 0) (bound fuel : ℕ) (st : State) (fs : List Frame) → q ≡ r → Steps r nodes s before bound t fuel st fs → (out : Outcome) → before out → Means q nodes t fuel st fs out
-carried r q nodes s t before bound fuel st fs e k out m = subst (λ (b : Context). Means b nodes t fuel st fs out) (sym e) (k.means out m)
+pub carried : (r q : Context) (nodes : Nodes) (s t : Trees) (before : Outcome → Type 0) (bound fuel : ℕ) (made : Fresh) (st : State) (fs : List Frame) → q ≡ r → Steps r nodes s before bound t fuel made st fs → (out : Outcome) → before out → Means q nodes t fuel made st fs out
+carried r q nodes s t before bound fuel made st fs e k out m = subst (λ (b : Context). Means b nodes t fuel made st fs out) (sym e) (k.means out m)

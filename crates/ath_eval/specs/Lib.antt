@@ -1,9 +1,12 @@
+pub mod Applying
 pub mod Arguments
 pub mod Base
+pub mod Building
 pub mod Evaluation
 pub mod Laws
 pub mod Machine
 pub mod Methods
 pub mod Outcomes
+pub mod Room
 pub mod Settings
 pub mod World

@@ -1,30 +1,35 @@
 -- The machine that evaluates: what waits for a part's outcome, and what a stack of that gives.
-use Rattle.std.specs.Prelude.{◌≡◌, ℕ, ◌+◌, ◌*◌, ◌<◌, List, [], ◌∷◌, ◌++◌, length, drop, Option, Some, None, slice_get}
+use Rattle.std.specs.Prelude.{◌≡◌, ℕ, ◌+◌, ◌*◌, ◌<◌, ◌≤◌, List, [], ◌∷◌, ◌++◌, length, drop, Option, Some, None, slice_get}
 use Rattle.ath_syntax.specs.declared.node.PhraseId.{PhraseId}
 use Rattle.ath_syntax.specs.declared.node.Form.{Form}
 use Rattle.ath_syntax.specs.declared.node.Form.TheVariants.{Apply, Call}
 use Rattle.ath_syntax.specs.declared.node.Node.{Node}
+use Rattle.ath_syntax.specs.Fits.{most}
 use Rattle.ath_syntax.specs.Nodes.{Nodes}
 use Rattle.ath_syntax.specs.Stands.{IsPhrase, ArePhrases}
-use Rattle.ath_syntax.specs.Tree.{Phrase, apply_at, call_at, Phrases, no_phrases}
+use Rattle.ath_syntax.specs.Tree.{Phrase, ascribe_at, apply_at, call_at, Phrases, no_phrases}
+use Rattle.ath_syntax.specs.declared.place.Pos.{Pos}
+use Rattle.ath_syntax.specs.declared.node.SortText.{SortText}
+use Rattle.ath_terms.specs.declared.fresh.Fresh.{Fresh}
 use Rattle.ath_terms.specs.Trees.{Trees, Grows}
 use Rattle.ath_env.specs.declared.value.Value as value
 use Rattle.ath_env.specs.Values.{Value}
 use Rattle.ath_eval.specs.declared.frame.Frame.{Frame}
-use Rattle.ath_eval.specs.declared.frame.Frame.TheVariants.{Head, Argument}
+use Rattle.ath_eval.specs.declared.frame.Frame.TheVariants.{Head, Argument, Ascription}
 use Rattle.ath_eval.specs.declared.frame.State.{State}
 use Rattle.ath_eval.specs.declared.frame.State.TheVariants.{Enter, Done}
 use Rattle.ath_eval.specs.declared.world.Outcome as code
 use Rattle.ath_eval.specs.declared.world.Outcome.TheVariants as ends
 use Rattle.ath_eval.specs.Arguments.{IsArgument, AreArguments}
 use Rattle.ath_eval.specs.Outcomes.{Context, Outcome, and_then, each}
-use Rattle.ath_eval.specs.Methods.{applied, called}
-use Rattle.ath_eval.specs.Evaluation.{evaluated, form, place, unbuilt}
+use Rattle.ath_eval.specs.Applying.{applied}
+use Rattle.ath_eval.specs.Methods.{called}
+use Rattle.ath_eval.specs.Evaluation.{evaluated, form, place, unbuilt, ascribed}
 use Rattle.ath_eval.specs.World.{IsOutcome}
 
 -- what becomes of the head and the arguments of an application or a call
-abbrev pub acts : Context → Phrase → Value → List Value → ℕ → Outcome
-acts c (apply_at p f xs) v vs = applied v vs p
+abbrev pub acts : Context → Phrase → Value → List Value → ℕ → Fresh → Outcome
+acts c (apply_at p f xs) v vs = applied c v vs p
 acts c (call_at p f xs) v vs = called c v vs p
 acts c x v vs = unbuilt (place x)
 
@@ -49,10 +54,12 @@ arguments_at nodes i = node_arguments (slice_get nodes.phrases i.0)
 -- the frame makes this outcome of its part's outcome
 abbrev pub Fills : Context → Nodes → Trees → Frame → Outcome → Outcome → Type 0
 Fills c nodes s (Head i levels) r out =
-    (x : Phrase) × IsPhrase nodes i x × (out ≡ and_then r (λ v left. each (evaluated c levels) [] (arguments x) (acts c x v) left))
+    (x : Phrase) × IsPhrase nodes i x × (out ≡ and_then r (λ v left made. each (evaluated c levels) [] (arguments x) (acts c x v) left made))
 Fills c nodes s (Argument i h done levels) r out =
-    (x : Phrase) × (v : Value) × (vs : List Value) × (rest : Phrases) × IsPhrase nodes i x × IsArgument s h v × AreArguments s done vs × ArePhrases nodes (drop (length done + 1) (arguments_at nodes i)) rest
-    × (out ≡ and_then r (λ w left. each (evaluated c levels) (vs ++ w ∷ []) rest (acts c x v) left))
+    (x : Phrase) × (v : Value) × (vs : List Value) × (rest : Phrases) × IsPhrase nodes i x × IsArgument s h v × AreArguments s done vs × (length done < most) × ArePhrases nodes (drop (length done + 1) (arguments_at nodes i)) rest
+    × (out ≡ and_then r (λ w left made. each (evaluated c levels) (vs ++ w ∷ []) rest (acts c x v) left made))
+Fills c nodes s (Ascription i) r out =
+    (p : Pos) × (x : Phrase) × (text : SortText) × IsPhrase nodes i (ascribe_at p x text) × (out ≡ and_then r (λ v left made. ascribed c text v p left made))
 
 -- the frames, of which the last is resumed first, make this outcome
 abbrev pub Resumes : Context → Nodes → Trees → List Frame → Outcome → Outcome → Type 0
@@ -60,11 +67,11 @@ Resumes c nodes s [] r out = out ≡ r
 Resumes c nodes s (f ∷ fs) r out = (mid : Outcome) × Resumes c nodes s fs r mid × Fills c nodes s f mid out
 
 -- from this state, with this fuel, the machine is to give this outcome
-abbrev pub Means : Context → Nodes → Trees → ℕ → State → List Frame → Outcome → Type 0
-Means c nodes s fuel (Enter i levels) fs out =
-    (x : Phrase) × IsPhrase nodes i x × Resumes c nodes s fs (evaluated c levels x fuel) out
-Means c nodes s fuel (Done o) fs out =
-    (r : Outcome) × IsOutcome s fuel o r × Resumes c nodes s fs r out
+abbrev pub Means : Context → Nodes → Trees → ℕ → Fresh → State → List Frame → Outcome → Type 0
+Means c nodes s fuel fresh (Enter i levels) fs out =
+    (x : Phrase) × IsPhrase nodes i x × Resumes c nodes s fs (evaluated c levels x fuel fresh) out
+Means c nodes s fuel fresh (Done o) fs out =
+    (r : Outcome) × IsOutcome s fuel fresh o r × Resumes c nodes s fs r out
 
 -- what is left to do
 abbrev pub rank : State → ℕ
@@ -78,23 +85,23 @@ abbrev pub weight : ℕ → State → List Frame → ℕ
 weight fuel st fs = 4 * fuel + 2 * length fs + rank st
 
 -- a stretch of the machine's work, which keeps the outcomes that were to come
-pub record Steps (c : Context) (nodes : Nodes) (old : Trees) (before : Outcome → Type 0) (bound : ℕ) (new : Trees) (fuel : ℕ) (st : State) (fs : List Frame) : Type 0 where
+pub record Steps (c : Context) (nodes : Nodes) (old : Trees) (before : Outcome → Type 0) (bound : ℕ) (new : Trees) (fuel : ℕ) (fresh : Fresh) (st : State) (fs : List Frame) : Type 0 where
   pub grows : Grows old new
-  pub means : (out : Outcome) → before out → Means c nodes new fuel st fs out
+  pub means : (out : Outcome) → before out → Means c nodes new fuel fresh st fs out
   pub falls : weight fuel st fs < bound
 
 -- the phrase's step is taken, and its parts have this many levels
-abbrev pub FormMeans : Context → Nodes → Trees → ℕ → PhraseId → ℕ → List Frame → Outcome → Type 0
-FormMeans c nodes s fuel i levels fs out =
-    (x : Phrase) × IsPhrase nodes i x × Resumes c nodes s fs (form c (evaluated c levels) x fuel) out
+abbrev pub FormMeans : Context → Nodes → Trees → ℕ → Fresh → PhraseId → ℕ → List Frame → Outcome → Type 0
+FormMeans c nodes s fuel fresh i levels fs out =
+    (x : Phrase) × IsPhrase nodes i x × Resumes c nodes s fs (form c (evaluated c levels) x fuel fresh) out
 
 -- the head is known, and these arguments
-abbrev pub ArgumentsMean : Context → Nodes → Trees → ℕ → PhraseId → value.Value → List value.Value → ℕ → List Frame → Outcome → Type 0
-ArgumentsMean c nodes s fuel i h done levels fs out =
-    (x : Phrase) × (v : Value) × (vs : List Value) × (rest : Phrases) × IsPhrase nodes i x × IsArgument s h v × AreArguments s done vs × ArePhrases nodes (drop (length done) (arguments_at nodes i)) rest
-    × Resumes c nodes s fs (each (evaluated c levels) vs rest (acts c x v) fuel) out
+abbrev pub ArgumentsMean : Context → Nodes → Trees → ℕ → Fresh → PhraseId → value.Value → List value.Value → ℕ → List Frame → Outcome → Type 0
+ArgumentsMean c nodes s fuel fresh i h done levels fs out =
+    (x : Phrase) × (v : Value) × (vs : List Value) × (rest : Phrases) × IsPhrase nodes i x × IsArgument s h v × AreArguments s done vs × (length done ≤ most) × ArePhrases nodes (drop (length done) (arguments_at nodes i)) rest
+    × Resumes c nodes s fs (each (evaluated c levels) vs rest (acts c x v) fuel fresh) out
 
 -- a frame has been taken off, and gets an outcome
-abbrev pub FrameMeans : Context → Nodes → Trees → ℕ → code.Outcome → Frame → List Frame → Outcome → Type 0
-FrameMeans c nodes s fuel o f fs out =
-    (r : Outcome) × (mid : Outcome) × IsOutcome s fuel o r × Fills c nodes s f r mid × Resumes c nodes s fs mid out
+abbrev pub FrameMeans : Context → Nodes → Trees → ℕ → Fresh → code.Outcome → Frame → List Frame → Outcome → Type 0
+FrameMeans c nodes s fuel fresh o f fs out =
+    (r : Outcome) × (mid : Outcome) × IsOutcome s fuel fresh o r × Fills c nodes s f r mid × Resumes c nodes s fs mid out

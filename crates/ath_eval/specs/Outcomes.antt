@@ -4,6 +4,7 @@ use Rattle.ath_sorts.specs.Signature.{Signature}
 use Rattle.ath_syntax.specs.declared.place.Pos.{Pos}
 use Rattle.ath_syntax.specs.Tree.{Phrase, Phrases, no_phrases, more_phrases}
 use Rattle.ath_terms.specs.Tree.{Sent}
+use Rattle.ath_terms.specs.declared.fresh.Fresh.{Fresh}
 use Rattle.ath_env.specs.Values.{Value, a_sentence}
 use Rattle.ath_print.specs.declared.fault.FaultKind.{FaultKind}
 use Rattle.ath_print.specs.Events.{Argument, Refusal}
@@ -14,32 +15,32 @@ pub record Context : Type 0 where
   pub signature : Signature
   pub base : List Sent
 
--- each with the fuel that is left, which is none where it is exhausted
+-- Each with the fuel and the counters of fresh names that are left. Where it is exhausted no fuel is.
 pub data Outcome : Type 0 where
   -- the value of an expression
-  gives : Value → ℕ → Outcome
+  gives : Value → ℕ → Fresh → Outcome
   -- the conclusion of a deduction
-  concludes : Sent → ℕ → Outcome
+  concludes : Sent → ℕ → Fresh → Outcome
   -- an error, at the phrase that refuses
-  fails : Pos → Refusal → ℕ → Outcome
+  fails : Pos → Refusal → ℕ → Fresh → Outcome
   -- no fuel is left for the phrase at this place
-  exhausts : Pos → Outcome
+  exhausts : Pos → Fresh → Outcome
 
 abbrev pub refusal : FaultKind → List Argument → Refusal
 refusal k named = record { kind = k; args = named }
 
--- what evaluates a part, with this fuel
+-- what evaluates a part, with this fuel and these counters
 abbrev pub Evaluator : Type 0
-Evaluator = Phrase → ℕ → Outcome
+Evaluator = Phrase → ℕ → Fresh → Outcome
 
 -- goes on with the value of a part; the first error or exhaustion is the outcome
-abbrev pub and_then : Outcome → (Value → ℕ → Outcome) → Outcome
-and_then (gives v fuel) go = go v fuel
-and_then (concludes p fuel) go = go (a_sentence p) fuel
-and_then (fails at why fuel) go = fails at why fuel
-and_then (exhausts at) go = exhausts at
+abbrev pub and_then : Outcome → (Value → ℕ → Fresh → Outcome) → Outcome
+and_then (gives v fuel fresh) go = go v fuel fresh
+and_then (concludes p fuel fresh) go = go (a_sentence p) fuel fresh
+and_then (fails at why fuel fresh) go = fails at why fuel fresh
+and_then (exhausts at fresh) go = exhausts at fresh
 
 -- the values of the parts from left to right, after those that are done
-abbrev pub each : Evaluator → List Value → Phrases → (List Value → ℕ → Outcome) → ℕ → Outcome
-each rec done no_phrases go fuel = go done fuel
-each rec done (more_phrases x xs) go fuel = and_then (rec x fuel) (λ v left. each rec (done ++ v ∷ []) xs go left)
+abbrev pub each : Evaluator → List Value → Phrases → (List Value → ℕ → Fresh → Outcome) → ℕ → Fresh → Outcome
+each rec done no_phrases go fuel fresh = go done fuel fresh
+each rec done (more_phrases x xs) go fuel fresh = and_then (rec x fuel fresh) (λ v left made. each rec (done ++ v ∷ []) xs go left made)

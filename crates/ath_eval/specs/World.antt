@@ -1,8 +1,8 @@
 -- What the world of an evaluation stands for, and its outcomes.
 use Rattle.std.specs.Prelude.{◌≡◌, ℕ}
 use Rattle.ath_terms.specs.Trees.{Trees, IsSent, Grows}
-use Rattle.ath_terms.specs.Measure.{IsSmall}
-use Rattle.ath_env.specs.Values.{IsValue}
+use Rattle.ath_terms.specs.declared.fresh.Fresh.{Fresh}
+use Rattle.ath_env.specs.Values.{IsValue, a_sentence}
 use Rattle.ath_print.specs.Stands.{IsFault}
 use Rattle.ath_eval.specs.declared.world.World.{World}
 use Rattle.ath_eval.specs.declared.world.Outcome as code
@@ -14,19 +14,23 @@ use Rattle.ath_eval.specs.Outcomes.{Context, Outcome, gives, concludes, fails, e
 abbrev pub context_of : World → Context
 context_of w = record { names = w.names; signature = w.sig; base = sents_of w.store w.base.items }
 
--- the outcome, where this fuel is left, is this one; what it gives is within the limits
-abbrev pub IsOutcome : Trees → ℕ → code.Outcome → Outcome → Type 0
-IsOutcome s fuel (ends.Value v) (gives x left) = IsValue s v x × IsSmallValue x × (fuel ≡ left)
-IsOutcome s fuel (ends.Theorem p) (concludes x left) = IsSent s p.0 x × IsSmall x × (fuel ≡ left)
-IsOutcome s fuel (ends.Error at why) (fails place x left) = (at ≡ place) × IsFault s why x × (fuel ≡ left)
-IsOutcome s fuel (ends.Exhausted at) (exhausts place) = (at ≡ place) × (fuel ≡ 0)
-IsOutcome s fuel o x = ⊥
+-- the outcome, where this fuel and these counters are left, is this one; what it gives is within the limits
+abbrev pub IsOutcome : Trees → ℕ → Fresh → code.Outcome → Outcome → Type 0
+IsOutcome s fuel fresh (ends.Value v) (gives x left made) = IsValue s v x × IsSmallValue x × (fuel ≡ left) × (fresh ≡ made)
+IsOutcome s fuel fresh (ends.Theorem p) (concludes x left made) = IsSent s p.0 x × IsSmallValue (a_sentence x) × (fuel ≡ left) × (fresh ≡ made)
+IsOutcome s fuel fresh (ends.Error at why) (fails place x left made) = (at ≡ place) × IsFault s why x × (fuel ≡ left) × (fresh ≡ made)
+IsOutcome s fuel fresh (ends.Exhausted at) (exhausts place made) = (at ≡ place) × (fuel ≡ 0) × (fresh ≡ made)
+IsOutcome s fuel fresh o x = ⊥
 
--- the code's outcome is this one, whatever fuel is left
-abbrev pub IsAnswer : Trees → code.Outcome → (ℕ → Outcome) → Type 0
-IsAnswer s o answer = (fuel : ℕ) → IsOutcome s fuel o (answer fuel)
+-- The code's outcome is this one, whatever fuel is left; `made` are the counters after it, where `fresh` are those before.
+abbrev pub IsAnswer : Trees → Fresh → Fresh → code.Outcome → (ℕ → Fresh → Outcome) → Type 0
+IsAnswer s fresh made o answer = (fuel : ℕ) → IsOutcome s fuel made o (answer fuel fresh)
 
--- the world after an evaluation: its store has grown and its fuel has moved, and all else is as it was
+-- the same, where the counters stay as they are
+abbrev pub IsSteady : Trees → code.Outcome → (ℕ → Fresh → Outcome) → Type 0
+IsSteady s o answer = (fresh : Fresh) → IsAnswer s fresh fresh o answer
+
+-- the world after an evaluation: its store has grown, its fuel and counters have moved, and all else is as it was
 pub record Evaluates (old new : World) : Type 0 where
   pub grows : Grows old.store new.store
   pub names : new.names ≡ old.names

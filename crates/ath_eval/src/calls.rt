@@ -1,56 +1,89 @@
-// The connective `if`, and the primitive methods, with their arguments.
+// Applications and calls, with their arguments.
 
-ghost use Rattle.std.specs.Prelude.{◌≡◌, List, IfOk};
-ghost use Rattle.ath_terms.specs.Trees.{Grows};
+ghost use Rattle.std.specs.Prelude.{◌≡◌, ◌<◌, ◌≤◌, ◌+◌, ◌^◌, List, IfOk, length};
+ghost use Rattle.std.specs.List.{All};
+ghost use Rattle.ath_sorts.specs.declared.sorts.Sym.{Sym as Symbol};
+ghost use Rattle.ath_sorts.specs.Signature.{Signature as Declared};
+ghost use Rattle.ath_terms.specs.declared.node.Conn.{Conn as Connective};
+ghost use Rattle.ath_terms.specs.SortsIn.{IsSortedIn};
+ghost use Rattle.ath_terms.specs.Trees.{Trees, Grows};
 ghost use Rattle.ath_env.specs.Values.{Value as Tree};
-ghost use Rattle.ath_eval.specs.Arguments.{IsArgument, AreArguments};
+ghost use Rattle.ath_eval.specs.Applying.{applied};
+ghost use Rattle.ath_eval.specs.Applying as applying;
+ghost use Rattle.ath_eval.specs.Arguments.{IsArgument, AreArguments, IsGood};
 ghost use Rattle.ath_eval.specs.Base.{sents_of, AreIn};
 ghost use Rattle.ath_eval.specs.Methods as methods;
 ghost use Rattle.ath_eval.specs.Outcomes.{Context};
-ghost use Rattle.ath_eval.specs.World.{IsAnswer};
+ghost use Rattle.ath_eval.specs.Room.{IsNarrow};
+ghost use Rattle.ath_eval.specs.World.{IsAnswer, IsSteady};
 
-use crate::methods::{claim, implication, mp};
+use crate::connectives::apply_connective;
+use crate::methods::{claim, mp};
 use crate::refusals::{bare, miscounted};
+use crate::symbols::apply_symbol;
 use crate::world::Outcome;
 use ath_env::Value;
 use ath_print::FaultKind;
+use ath_sorts::Signature;
 use ath_syntax::Pos;
-use ath_terms::{Conn, SentId, Store};
+use ath_terms::{Fresh, SentId, Store};
 use std::alloc::{AllocError, Global};
 
-/// The connective `if` of these arguments.
-fn implied(alloc: Global, store: &mut Store, args: &[Value], at: Pos) -> Result<Outcome, AllocError>
-    requires { (xs : List Tree) × AreArguments store.old args.now xs }
-    ensures grows { Grows store.old store.new }
-    ensures outcome { IfOk result (λ o. (xs : List Tree) → AreArguments store.old args.now xs → IsAnswer store.new o (methods.implied xs at)) }
-{
-    if args.len() == 2 {
-        let outcome = implication(alloc, store, args[0], args[1], at)?;
-        return Ok(outcome);
-    }
-    let outcome = miscounted(alloc, 2, args.len() as u64, at)?;
-    Ok(outcome)
-}
-
 /// An application to these arguments.
-pub fn apply(
+pub(crate) fn apply(
     alloc: Global,
+    sig: &Signature,
     store: &mut Store,
+    fresh: &mut Fresh,
     head: Value,
     args: &[Value],
     at: Pos,
 ) -> Result<Outcome, AllocError>
-    requires { (xs : List Tree) × AreArguments store.old args.now xs }
+    requires sorted { IsSortedIn sig.now store.old }
+    requires narrow { IsNarrow sig.now }
+    requires counter { fresh.old.sort < 2 ^ 62 }
+    requires few { length args.now ≤ 4194304 }
+    requires arguments { All (IsGood store.old) args.now }
     ensures grows { Grows store.old store.new }
-    ensures outcome { IfOk result (λ o. (v : Tree) (xs : List Tree) → IsArgument store.old head v → AreArguments store.old args.now xs → IsAnswer store.new o (methods.applied v xs at)) }
+    ensures sorted { IsSortedIn sig.now store.new }
+    ensures room { fresh.new.sort ≤ fresh.old.sort + 64 }
+    ensures outcome { IfOk result (λ o. (c : Context) (v : Tree) (xs : List Tree) → c.signature ≡ sig.now → IsArgument store.old head v → AreArguments store.old args.now xs → IsAnswer store.new fresh.old fresh.new o (applied c v xs at)) }
 {
-    match &head {
-        Value::Conn(Conn::If) => {
-            let outcome = implied(alloc, store, args, at)?;
+    match head {
+        Value::Symbol(f) => {
+            let outcome = apply_symbol(alloc, sig, store, fresh, f, args, at)?;
             Ok(outcome)
         }
-        _other => Ok(bare(alloc, FaultKind::NotBuilt, at)),
+        Value::Conn(conn) => {
+            let outcome = apply_connective(alloc, store, conn, args, at)?;
+            Ok(outcome)
+        }
+        other => Ok(apply_other(alloc, other, args, at)),
     }
+}
+
+/// An application of what is neither a symbol nor a connective. A term and a sentence take no arguments.
+fn apply_other(alloc: Global, head: Value, args: &[Value], at: Pos) -> Outcome
+    requires symbol { (f : Symbol) → head ≡ Value.Symbol f → ⊥ }
+    requires connective { (k : Connective) → head ≡ Value.Conn k → ⊥ }
+    ensures { (s : Trees) (c : Context) (v : Tree) (xs : List Tree) → IsArgument s head v → AreArguments s args.now xs → IsSteady s result (applied c v xs at) }
+{
+    match head {
+        Value::Term(_) => itself(alloc, head, args, at),
+        Value::Sent(_) => itself(alloc, head, args, at),
+        Value::Quant(_) => bare(alloc, FaultKind::NotBuilt, at),
+        _other => bare(alloc, FaultKind::NotApplicable, at),
+    }
+}
+
+/// A value that is given no arguments is itself.
+fn itself(alloc: Global, head: Value, args: &[Value], at: Pos) -> Outcome
+    ensures { (s : Trees) (v : Tree) (xs : List Tree) → IsArgument s head v → AreArguments s args.now xs → IsSteady s result (applying.itself v xs at) }
+{
+    if args.is_empty() {
+        return Outcome::Value(head);
+    }
+    bare(alloc, FaultKind::NotApplicable, at)
 }
 
 fn claimed(
@@ -63,7 +96,8 @@ fn claimed(
     requires base { AreIn store.old base.now }
     requires arguments { (xs : List Tree) × AreArguments store.old args.now xs }
     ensures grows { Grows store.old store.new }
-    ensures outcome { IfOk result (λ o. (xs : List Tree) → AreArguments store.old args.now xs → IsAnswer store.new o (methods.claimed (sents_of store.old base.now) xs at)) }
+    ensures sorted { (sig : Declared) → IsSortedIn sig store.old → IsSortedIn sig store.new }
+    ensures outcome { IfOk result (λ o. (xs : List Tree) → AreArguments store.old args.now xs → IsSteady store.new o (methods.claimed (sents_of store.old base.now) xs at)) }
 {
     if args.len() == 1 {
         let outcome = claim(alloc, store, base, args[0], at)?;
@@ -83,7 +117,8 @@ fn ponens(
     requires base { AreIn store.old base.now }
     requires arguments { (xs : List Tree) × AreArguments store.old args.now xs }
     ensures grows { Grows store.old store.new }
-    ensures outcome { IfOk result (λ o. (xs : List Tree) → AreArguments store.old args.now xs → IsAnswer store.new o (methods.ponens (sents_of store.old base.now) xs at)) }
+    ensures sorted { (sig : Declared) → IsSortedIn sig store.old → IsSortedIn sig store.new }
+    ensures outcome { IfOk result (λ o. (xs : List Tree) → AreArguments store.old args.now xs → IsSteady store.new o (methods.ponens (sents_of store.old base.now) xs at)) }
 {
     if args.len() == 2 {
         let outcome = mp(alloc, store, base, args[0], args[1], at)?;
@@ -104,7 +139,8 @@ fn by_method(
     requires base { AreIn store.old base.now }
     requires arguments { (xs : List Tree) × AreArguments store.old args.now xs }
     ensures grows { Grows store.old store.new }
-    ensures outcome { IfOk result (λ o. (c : Context) (xs : List Tree) → c.base ≡ sents_of store.old base.now → AreArguments store.old args.now xs → IsAnswer store.new o (methods.by_method c n xs at)) }
+    ensures sorted { (sig : Declared) → IsSortedIn sig store.old → IsSortedIn sig store.new }
+    ensures outcome { IfOk result (λ o. (c : Context) (xs : List Tree) → c.base ≡ sents_of store.old base.now → AreArguments store.old args.now xs → IsSteady store.new o (methods.by_method c n xs at)) }
 {
     if n == 0 {
         let outcome = claimed(alloc, store, base, args, at)?;
@@ -115,7 +151,7 @@ fn by_method(
 }
 
 /// A call with these arguments.
-pub fn call(
+pub(crate) fn call(
     alloc: Global,
     store: &mut Store,
     base: &[SentId],
@@ -126,7 +162,8 @@ pub fn call(
     requires base { AreIn store.old base.now }
     requires arguments { (xs : List Tree) × AreArguments store.old args.now xs }
     ensures grows { Grows store.old store.new }
-    ensures outcome { IfOk result (λ o. (c : Context) (v : Tree) (xs : List Tree) → c.base ≡ sents_of store.old base.now → IsArgument store.old head v → AreArguments store.old args.now xs → IsAnswer store.new o (methods.called c v xs at)) }
+    ensures sorted { (sig : Declared) → IsSortedIn sig store.old → IsSortedIn sig store.new }
+    ensures outcome { IfOk result (λ o. (c : Context) (v : Tree) (xs : List Tree) → c.base ≡ sents_of store.old base.now → IsArgument store.old head v → AreArguments store.old args.now xs → IsSteady store.new o (methods.called c v xs at)) }
 {
     match &head {
         Value::PrimMethod(n) => {

@@ -5,13 +5,15 @@ use ath_env::Value;
 use ath_syntax::PhraseId;
 use sqlite_items::Items;
 
-/// What waits for the outcome of a part: an application or a call, and the levels that its parts have.
+/// What waits for the outcome of a part: an application, a call or an ascription, and the levels that its parts have.
 #[derive(Debug, Drop)]
 pub(crate) enum Frame {
     /// waits for its head
     Head(PhraseId, u32),
     /// waits for an argument; the head's value, and those of the arguments that are done
     Argument(PhraseId, Value, Items<Value>, u32),
+    /// waits for the value that is ascribed a sort
+    Ascription(PhraseId),
 }
 
 /// What comes next: to evaluate a phrase with so many levels, or to hand on an outcome.

@@ -1,6 +1,6 @@
 // Laws of evaluation.
 
-ghost use Rattle.ath_eval.specs.Laws.{ConclusionsFollow, ValuesAreSorted, MoreFuel, FuelNeverRises};
+ghost use Rattle.ath_eval.specs.Laws.{ConclusionsFollow, ValuesAreSorted, MoreFuel, FuelNeverRises, StepsTakeFew, SignaturesGrow};
 
 /// A conclusion is derivable, under no hypotheses, from the asserted sentences, where each sentence of the assumption base
 /// is.
@@ -8,7 +8,8 @@ pub fn conclusions_follow()
     ensures { ConclusionsFollow }
 {}
 
-/// The sentences that expressions give are well-sorted.
+/// The terms that expressions give have the sorts that are given with them, and the sentences are well-sorted, where the
+/// signature is valid and has the sort Boolean.
 pub fn values_are_sorted()
     ensures { ValuesAreSorted }
 {}
@@ -18,7 +19,18 @@ pub fn more_fuel()
     ensures { MoreFuel }
 {}
 
-/// Fuel never rises.
+/// Fuel never rises, and the counters of fresh names never fall.
 pub fn fuel_never_rises()
     ensures { FuelNeverRises }
+{}
+
+/// Where no symbol has more than 64 parameters, each step takes at most 64 sort variables. So the room for them that is there
+/// at first is there after each evaluation.
+pub fn steps_take_few()
+    ensures { StepsTakeFew }
+{}
+
+/// What is well-sorted in a signature, or derivable in it, is so in each one that keeps what it has.
+pub fn signatures_grow()
+    ensures { SignaturesGrow }
 {}

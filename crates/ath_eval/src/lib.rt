@@ -1,14 +1,19 @@
 //! Evaluation of phrases under a bound on steps.
 #![tactic(auto)]
 
-pub mod calls;
+mod building;
+mod calls;
+mod connectives;
 mod frame;
+mod kinds;
 pub mod laws;
 mod machine;
 mod methods;
+mod names;
 mod parts;
 mod refusals;
 mod setting;
+mod symbols;
 pub mod world;
 
 pub use machine::run;

@@ -1,26 +1,34 @@
 // The machine: what waits for a part's outcome stands on a stack.
 
-ghost use Rattle.std.specs.Prelude.{IfOk};
+ghost use Rattle.std.specs.Prelude.{◌≡◌, ◌<◌, ◌≤◌, ◌+◌, ◌*◌, ◌^◌, IfOk, length};
 ghost use Rattle.ath_syntax.specs.Stands.{IsPhrase};
-ghost use Rattle.ath_syntax.specs.Tree.{Phrase as PhraseTree};
+ghost use Rattle.ath_syntax.specs.Tree.{Phrase as PhraseTree, ascribe_at};
+ghost use Rattle.ath_syntax.specs.declared.node.SortText.{SortText as Text};
+ghost use Rattle.ath_syntax.specs.declared.place.Pos.{Pos as Place};
+ghost use Rattle.ath_env.specs.Values.{value_at};
+ghost use Rattle.ath_eval.specs.Arguments.{IsGood};
+ghost use Rattle.ath_eval.specs.Evaluation as evaluation;
+ghost use Rattle.ath_eval.specs.Outcomes.{Context};
+ghost use Rattle.ath_syntax.specs.Fits.{most};
+ghost use Rattle.ath_terms.specs.SortsIn.{IsSortedIn};
 ghost use Rattle.ath_terms.specs.Trees.{Grows};
 ghost use Rattle.ath_eval.specs.Base.{AreIn};
-ghost use Rattle.ath_env.specs.LookUp.{looked_up};
-ghost use Rattle.ath_eval.specs.Evaluation.{evaluated, found, outcome_of};
+ghost use Rattle.ath_eval.specs.Evaluation.{evaluated, outcome_of};
+ghost use Rattle.ath_eval.specs.Room.{IsRoomy, IsNarrow};
 ghost use Rattle.ath_eval.specs.Settings.{reading, Enters, EntersForm, TakesArguments, IsTaking, ResumesFrame, IsResumed};
-ghost use Rattle.ath_eval.specs.World.{IsAnswer, IsOutcome, context_of, Evaluates};
+ghost use Rattle.ath_eval.specs.World.{IsOutcome, IsSteady, context_of, Evaluates};
 ghost use Rattle.ath_eval.specs.declared.world.Outcome.TheVariants as ends;
 
 use crate::frame::{Frame, State};
+use crate::names::{ascribe, find, variable};
 use crate::parts::{act, argument};
-use crate::refusals::{bare, unbound};
+use crate::refusals::bare;
 use crate::setting::Setting;
 use crate::world::{Outcome, World};
-use ath_env::{Value, look_up};
+use ath_env::Value;
 use ath_print::FaultKind;
-use ath_sorts::Sym;
-use ath_syntax::{Form, PhraseId, Pos};
-use ath_terms::Store;
+use ath_syntax::{Form, PhraseId};
+use ath_terms::{Fresh, Store};
 use sqlite_items::Items;
 use std::alloc::{AllocError, Global};
 
@@ -32,14 +40,20 @@ fn enter(
     alloc: Global,
     set: &Setting<'_>,
     store: &mut Store,
+    fresh: &mut Fresh,
     fuel: &mut u64,
     stack: &mut Vec<Frame>,
     phrase: PhraseId,
     levels: u32,
 ) -> Result<State, AllocError>
-    requires { (x : PhraseTree) × IsPhrase set.now.phrases.now phrase x }
+    requires phrase { (x : PhraseTree) × IsPhrase set.now.phrases.now phrase x }
+    requires sorted { IsSortedIn set.now.sig.now store.old }
+    requires narrow { IsNarrow set.now.sig.now }
+    requires room { fresh.old.sort + 64 * (fuel.old + length stack.old.items) ≤ 64000000001 }
     ensures grows { Grows store.old store.new }
-    ensures steps { IfOk result (λ st. Enters set.now store.old fuel.old phrase levels stack.old.items store.new fuel.new st stack.new.items) }
+    ensures sorted { IsSortedIn set.now.sig.now store.new }
+    ensures room { fresh.new.sort + 64 * (fuel.new + length stack.new.items) ≤ 64000000001 }
+    ensures steps { IfOk result (λ st. Enters set.now store.old fuel.old fresh.old phrase levels stack.old.items store.new fuel.new fresh.new st stack.new.items) }
 {
     let place = set.phrases.node(phrase).pos;
     if *fuel == 0 {
@@ -49,48 +63,42 @@ fn enter(
     if levels == 0 {
         return Ok(State::Done(bare(alloc, FaultKind::TooNested, place)));
     }
-    let state = enter_form(alloc, set, store, stack, phrase, levels - 1)?;
+    let state = enter_form(alloc, set, store, fresh, stack, phrase, levels - 1)?;
     Ok(state)
 }
 
-/// The value of a name.
-fn find(
-    alloc: Global,
-    set: &Setting<'_>,
-    store: &mut Store,
-    name: Sym,
-    at: Pos,
-) -> Result<Outcome, AllocError>
-    ensures grows { Grows store.old store.new }
-    ensures outcome { IfOk result (λ o. IsAnswer store.new o (found name at (looked_up set.now.names.now set.now.sig.now name))) }
-{
-    match look_up(alloc, set.names, set.sig, store, name)? {
-        Some(value) => Ok(Outcome::Value(value)),
-        None => {
-            let outcome = unbound(alloc, name, at)?;
-            Ok(outcome)
-        }
-    }
-}
-
-/// Goes into the head of an application or a call.
+/// Evaluates a form without parts, or goes into the head of an application or a call, or into what is ascribed a sort.
 fn enter_form(
     alloc: Global,
     set: &Setting<'_>,
     store: &mut Store,
+    fresh: &mut Fresh,
     stack: &mut Vec<Frame>,
     phrase: PhraseId,
     levels: u32,
 ) -> Result<State, AllocError>
-    requires { (x : PhraseTree) × IsPhrase set.now.phrases.now phrase x }
+    requires phrase { (x : PhraseTree) × IsPhrase set.now.phrases.now phrase x }
+    requires sorted { IsSortedIn set.now.sig.now store.old }
+    requires narrow { IsNarrow set.now.sig.now }
+    requires counter { fresh.old.sort < 2 ^ 62 }
     ensures grows { Grows store.old store.new }
-    ensures steps { IfOk result (λ st. EntersForm set.now store.old phrase levels stack.old.items store.new st stack.new.items) }
+    ensures sorted { IsSortedIn set.now.sig.now store.new }
+    ensures room { fresh.new.sort + 64 * length stack.new.items ≤ fresh.old.sort + 64 * (length stack.old.items + 1) }
+    ensures steps { IfOk result (λ st. EntersForm set.now store.old fresh.old phrase levels stack.old.items store.new fresh.new st stack.new.items) }
 {
     let node = set.phrases.node(phrase);
     match &node.form {
         Form::Name(name) => {
-            let outcome = find(alloc, set, store, *name, node.pos)?;
+            let outcome = find(alloc, set, store, fresh, *name, node.pos)?;
             Ok(State::Done(outcome))
+        }
+        Form::Var(name, index, text) => {
+            let outcome = variable(alloc, set.sig, store, fresh, *name, *index, text, node.pos)?;
+            Ok(State::Done(outcome))
+        }
+        Form::Ascribe(part, _) => {
+            stack.push(Frame::Ascription(phrase))?;
+            Ok(State::Enter(*part, levels))
         }
         Form::Apply(head, _) => {
             stack.push(Frame::Head(phrase, levels))?;
@@ -109,6 +117,7 @@ fn take_arguments(
     alloc: Global,
     set: &Setting<'_>,
     store: &mut Store,
+    fresh: &mut Fresh,
     stack: &mut Vec<Frame>,
     phrase: PhraseId,
     head: Value,
@@ -116,13 +125,19 @@ fn take_arguments(
     levels: u32,
 ) -> Result<State, AllocError>
     requires base { AreIn store.old set.now.base.now }
-    requires known { IsTaking set.now store.old phrase head done levels stack.old.items }
+    requires few { length done ≤ most }
+    requires known { IsTaking set.now store.old fresh.old phrase head done levels stack.old.items }
+    requires sorted { IsSortedIn set.now.sig.now store.old }
+    requires narrow { IsNarrow set.now.sig.now }
+    requires counter { fresh.old.sort < 2 ^ 62 }
     ensures grows { Grows store.old store.new }
-    ensures steps { IfOk result (λ st. TakesArguments set.now store.old phrase head done levels stack.old.items store.new st stack.new.items) }
+    ensures sorted { IsSortedIn set.now.sig.now store.new }
+    ensures room { fresh.new.sort + 64 * length stack.new.items ≤ fresh.old.sort + 64 * (length stack.old.items + 1) }
+    ensures steps { IfOk result (λ st. TakesArguments set.now store.old fresh.old phrase head done levels stack.old.items store.new fresh.new st stack.new.items) }
 {
     match argument(set.phrases, phrase, done.len()) {
         None => {
-            let outcome = act(alloc, set, store, phrase, head, done.as_slice())?;
+            let outcome = act(alloc, set, store, fresh, phrase, head, done.as_slice())?;
             Ok(State::Done(outcome))
         }
         Some(next) => {
@@ -132,30 +147,69 @@ fn take_arguments(
     }
 }
 
+/// The outcome of an ascription to this value.
+fn ascribed(
+    alloc: Global,
+    set: &Setting<'_>,
+    store: &mut Store,
+    phrase: PhraseId,
+    value: Value,
+) -> Result<Outcome, AllocError>
+    requires phrase { (p : Place) × (x : PhraseTree) × (text : Text) × IsPhrase set.now.phrases.now phrase (ascribe_at p x text) }
+    requires sorted { IsSortedIn set.now.sig.now store.old }
+    requires value { IsGood store.old value }
+    ensures grows { Grows store.old store.new }
+    ensures sorted { IsSortedIn set.now.sig.now store.new }
+    ensures outcome { IfOk result (λ o. (c : Context) (p : Place) (x : PhraseTree) (text : Text) → c.signature ≡ set.now.sig.now → IsPhrase set.now.phrases.now phrase (ascribe_at p x text) → IsSteady store.new o (evaluation.ascribed c text (value_at store.old value) p)) }
+{
+    let node = set.phrases.node(phrase);
+    match &node.form {
+        Form::Ascribe(_, text) => {
+            let outcome = ascribe(alloc, set.sig, store, value, text, node.pos)?;
+            Ok(outcome)
+        }
+        _other => Ok(bare(alloc, FaultKind::NotBuilt, node.pos)),
+    }
+}
+
 /// Gives a frame the value of its part.
 fn resume_value(
     alloc: Global,
     set: &Setting<'_>,
     store: &mut Store,
+    fresh: &mut Fresh,
     stack: &mut Vec<Frame>,
     frame: Frame,
     value: Value,
 ) -> Result<State, AllocError>
     requires base { AreIn store.old set.now.base.now }
-    requires known { IsResumed set.now store.old (ends.Value value) frame stack.old.items }
+    requires known { IsResumed set.now store.old fresh.old (ends.Value value) frame stack.old.items }
+    requires sorted { IsSortedIn set.now.sig.now store.old }
+    requires narrow { IsNarrow set.now.sig.now }
+    requires counter { fresh.old.sort < 2 ^ 62 }
     ensures grows { Grows store.old store.new }
-    ensures steps { IfOk result (λ st. ResumesFrame set.now store.old (ends.Value value) frame stack.old.items store.new st stack.new.items) }
+    ensures sorted { IsSortedIn set.now.sig.now store.new }
+    ensures room { fresh.new.sort + 64 * length stack.new.items ≤ fresh.old.sort + 64 * (length stack.old.items + 1) }
+    ensures steps { IfOk result (λ st. ResumesFrame set.now store.old fresh.old (ends.Value value) frame stack.old.items store.new fresh.new st stack.new.items) }
 {
     match frame {
         Frame::Head(phrase, levels) => {
             let none = Items::new(alloc);
-            let state = take_arguments(alloc, set, store, stack, phrase, value, none, levels)?;
+            let state = take_arguments(
+                alloc, set, store, fresh, stack, phrase, value, none, levels,
+            )?;
             Ok(state)
         }
         Frame::Argument(phrase, head, mut done, levels) => {
             done.push(value)?;
-            let state = take_arguments(alloc, set, store, stack, phrase, head, done, levels)?;
+            let state = take_arguments(
+                alloc, set, store, fresh, stack, phrase, head, done, levels,
+            )?;
             Ok(state)
+        }
+        Frame::Ascription(phrase) => {
+            let outcome = ascribed(alloc, set, store, phrase, value)?;
+            Ok(State::Done(outcome))
         }
     }
 }
@@ -165,22 +219,28 @@ fn resume(
     alloc: Global,
     set: &Setting<'_>,
     store: &mut Store,
+    fresh: &mut Fresh,
     stack: &mut Vec<Frame>,
     frame: Frame,
     outcome: Outcome,
 ) -> Result<State, AllocError>
     requires base { AreIn store.old set.now.base.now }
-    requires known { IsResumed set.now store.old outcome frame stack.old.items }
+    requires known { IsResumed set.now store.old fresh.old outcome frame stack.old.items }
+    requires sorted { IsSortedIn set.now.sig.now store.old }
+    requires narrow { IsNarrow set.now.sig.now }
+    requires counter { fresh.old.sort < 2 ^ 62 }
     ensures grows { Grows store.old store.new }
-    ensures steps { IfOk result (λ st. ResumesFrame set.now store.old outcome frame stack.old.items store.new st stack.new.items) }
+    ensures sorted { IsSortedIn set.now.sig.now store.new }
+    ensures room { fresh.new.sort + 64 * length stack.new.items ≤ fresh.old.sort + 64 * (length stack.old.items + 1) }
+    ensures steps { IfOk result (λ st. ResumesFrame set.now store.old fresh.old outcome frame stack.old.items store.new fresh.new st stack.new.items) }
 {
     match outcome {
         Outcome::Value(value) => {
-            let state = resume_value(alloc, set, store, stack, frame, value)?;
+            let state = resume_value(alloc, set, store, fresh, stack, frame, value)?;
             Ok(state)
         }
         Outcome::Theorem(p) => {
-            let state = resume_value(alloc, set, store, stack, frame, Value::Sent(p))?;
+            let state = resume_value(alloc, set, store, fresh, stack, frame, Value::Sent(p))?;
             Ok(state)
         }
         Outcome::Error(place, fault) => Ok(State::Done(Outcome::Error(place, fault))),
@@ -193,26 +253,32 @@ fn evaluate(
     alloc: Global,
     set: &Setting<'_>,
     store: &mut Store,
+    fresh: &mut Fresh,
     fuel: &mut u64,
     phrase: PhraseId,
     levels: u32,
 ) -> Result<Outcome, AllocError>
     requires base { AreIn store.old set.now.base.now }
     requires phrase { (x : PhraseTree) × IsPhrase set.now.phrases.now phrase x }
+    requires sorted { IsSortedIn set.now.sig.now store.old }
+    requires narrow { IsNarrow set.now.sig.now }
+    requires room { IsRoomy fuel.old fresh.old }
     ensures grows { Grows store.old store.new }
-    ensures outcome { IfOk result (λ o. (x : PhraseTree) → IsPhrase set.now.phrases.now phrase x → IsOutcome store.new fuel.new o (evaluated (reading set.now store.old) levels x fuel.old)) }
+    ensures sorted { IsSortedIn set.now.sig.now store.new }
+    ensures room { IsRoomy fuel.new fresh.new }
+    ensures outcome { IfOk result (λ o. (x : PhraseTree) → IsPhrase set.now.phrases.now phrase x → IsOutcome store.new fuel.new fresh.new o (evaluated (reading set.now store.old) levels x fuel.old fresh.old)) }
 {
     let mut stack: Vec<Frame> = Vec::new(alloc);
     let mut state = State::Enter(phrase, levels);
     loop {
         match state {
             State::Enter(next, left) => {
-                state = enter(alloc, set, store, fuel, &mut stack, next, left)?;
+                state = enter(alloc, set, store, fresh, fuel, &mut stack, next, left)?;
             }
             State::Done(outcome) => match stack.pop() {
                 None => return Ok(outcome),
                 Some(frame) => {
-                    state = resume(alloc, set, store, &mut stack, frame, outcome)?;
+                    state = resume(alloc, set, store, fresh, &mut stack, frame, outcome)?;
                 }
             },
         }
@@ -221,9 +287,11 @@ fn evaluate(
 
 /// The outcome of a directive's phrase.
 pub fn run(alloc: Global, w: &mut World, phrase: PhraseId) -> Result<Outcome, AllocError>
-    requires { (x : PhraseTree) × IsPhrase w.old.phrases phrase x }
+    requires phrase { (x : PhraseTree) × IsPhrase w.old.phrases phrase x }
+    requires sorted { IsSortedIn w.old.sig w.old.store }
+    ensures sorted { IsSortedIn w.new.sig w.new.store }
     ensures world { Evaluates w.old w.new }
-    ensures outcome { IfOk result (λ o. (x : PhraseTree) → IsPhrase w.old.phrases phrase x → IsOutcome w.new.store w.new.fuel o (outcome_of (context_of w.old) x w.old.fuel)) }
+    ensures outcome { IfOk result (λ o. (x : PhraseTree) → IsPhrase w.old.phrases phrase x → IsOutcome w.new.store w.new.fuel w.new.fresh o (outcome_of (context_of w.old) x w.old.fuel w.old.fresh)) }
 {
     let set = Setting {
         names: &w.names,
@@ -231,6 +299,14 @@ pub fn run(alloc: Global, w: &mut World, phrase: PhraseId) -> Result<Outcome, Al
         phrases: &w.phrases,
         base: w.base.as_slice(),
     };
-    let outcome = evaluate(alloc, &set, &mut w.store, &mut w.fuel, phrase, MOST_NESTED)?;
+    let outcome = evaluate(
+        alloc,
+        &set,
+        &mut w.store,
+        &mut w.fresh,
+        &mut w.fuel,
+        phrase,
+        MOST_NESTED,
+    )?;
     Ok(outcome)
 }

@@ -1,15 +1,14 @@
-// The connective `if` and the primitive methods, argument by argument.
+// The primitive methods, argument by argument.
 
 ghost use Rattle.std.specs.Prelude.{◌≡◌, ◌<◌, Some, IfOk, length};
 ghost use Rattle.ath_terms.specs.Trees.{sent_at, Grows};
-ghost use Rattle.ath_terms.specs.Tree.{joined};
-ghost use Rattle.ath_terms.specs.Measure.{IsSmall};
-ghost use Rattle.ath_terms.specs.declared.node.Conn.TheVariants.{If};
-ghost use Rattle.ath_env.specs.Values.{value_at, sentence_of};
-ghost use Rattle.ath_eval.specs.Arguments.{IsGood, AreParts};
+ghost use Rattle.ath_sorts.specs.Signature.{Signature as Declared};
+ghost use Rattle.ath_terms.specs.SortsIn.{IsSortedIn};
+ghost use Rattle.ath_env.specs.Values.{value_at, sentence_of, a_sentence};
+ghost use Rattle.ath_eval.specs.Arguments.{IsGood, IsSmallValue, AreParts};
 ghost use Rattle.ath_eval.specs.Base.{sents_of, AreIn};
 ghost use Rattle.ath_eval.specs.Methods as methods;
-ghost use Rattle.ath_eval.specs.World.{IsAnswer};
+ghost use Rattle.ath_eval.specs.World.{IsSteady};
 
 use crate::refusals::{missing, numbered};
 use crate::world::Outcome;
@@ -17,88 +16,8 @@ use ath_env::{Value, sentence};
 use ath_print::FaultKind;
 use ath_syntax::Pos;
 use ath_terms::equality::is_same_sent;
-use ath_terms::{BuildError, Conn, SentId, SentNode, Store, join};
+use ath_terms::{Conn, SentId, SentNode, Store};
 use std::alloc::{AllocError, Global};
-
-/// The implication of two sentences.
-fn build(
-    alloc: Global,
-    store: &mut Store,
-    p: SentId,
-    q: SentId,
-    at: Pos,
-) -> Result<Outcome, AllocError>
-    requires left { p.0 < length store.old.sents }
-    requires right { q.0 < length store.old.sents }
-    requires left_small { IsSmall (sent_at store.old.sents p.0) }
-    requires right_small { IsSmall (sent_at store.old.sents q.0) }
-    ensures grows { Grows store.old store.new }
-    ensures outcome { IfOk result (λ o. IsAnswer store.new o (methods.built (joined If (sent_at store.old.sents p.0) (sent_at store.old.sents q.0)) at)) }
-{
-    match join(alloc, store, Conn::If, p, q) {
-        Ok(made) => Ok(Outcome::Value(Value::Sent(made))),
-        Err(BuildError::TooLarge(n)) => {
-            let outcome = numbered(alloc, FaultKind::TooLarge, n, at)?;
-            Ok(outcome)
-        }
-        Err(BuildError::TooDeep(n)) => {
-            let outcome = numbered(alloc, FaultKind::TooDeep, n, at)?;
-            Ok(outcome)
-        }
-        Err(BuildError::Memory) => Err(AllocError),
-    }
-}
-
-/// The implication of a sentence and the second argument.
-fn imply(
-    alloc: Global,
-    store: &mut Store,
-    p: SentId,
-    w: Value,
-    at: Pos,
-) -> Result<Outcome, AllocError>
-    requires left { p.0 < length store.old.sents }
-    requires left_small { IsSmall (sent_at store.old.sents p.0) }
-    requires right { IsGood store.old w }
-    ensures grows { Grows store.old store.new }
-    ensures outcome { IfOk result (λ o. IsAnswer store.new o (methods.implication (Some (sent_at store.old.sents p.0)) (sentence_of (value_at store.old w)) at)) }
-{
-    match sentence(store, w)? {
-        Some(q) => {
-            let outcome = build(alloc, store, p, q, at)?;
-            Ok(outcome)
-        }
-        None => {
-            let outcome = numbered(alloc, FaultKind::WrongKind, 2, at)?;
-            Ok(outcome)
-        }
-    }
-}
-
-/// The implication of the two arguments.
-pub(crate) fn implication(
-    alloc: Global,
-    store: &mut Store,
-    v: Value,
-    w: Value,
-    at: Pos,
-) -> Result<Outcome, AllocError>
-    requires left { IsGood store.old v }
-    requires right { IsGood store.old w }
-    ensures grows { Grows store.old store.new }
-    ensures outcome { IfOk result (λ o. IsAnswer store.new o (methods.implication (sentence_of (value_at store.old v)) (sentence_of (value_at store.old w)) at)) }
-{
-    match sentence(store, v)? {
-        Some(p) => {
-            let outcome = imply(alloc, store, p, w, at)?;
-            Ok(outcome)
-        }
-        None => {
-            let outcome = numbered(alloc, FaultKind::WrongKind, 1, at)?;
-            Ok(outcome)
-        }
-    }
-}
 
 /// Whether the base has a sentence.
 fn is_in_base(store: &Store, base: &[SentId], p: SentId) -> bool
@@ -124,8 +43,8 @@ fn conclude(
 ) -> Result<Outcome, AllocError>
     requires base { AreIn store.now base.now }
     requires sent { p.0 < length store.now.sents }
-    requires small { IsSmall (sent_at store.now.sents p.0) }
-    ensures { IfOk result (λ o. IsAnswer store.now o (methods.claim (sents_of store.now base.now) (Some (sent_at store.now.sents p.0)) at)) }
+    requires small { IsSmallValue (a_sentence (sent_at store.now.sents p.0)) }
+    ensures { IfOk result (λ o. IsSteady store.now o (methods.claim (sents_of store.now base.now) (Some (sent_at store.now.sents p.0)) at)) }
 {
     if is_in_base(store, base, p) {
         return Ok(Outcome::Theorem(p));
@@ -145,7 +64,8 @@ pub(crate) fn claim(
     requires base { AreIn store.old base.now }
     requires argument { IsGood store.old v }
     ensures grows { Grows store.old store.new }
-    ensures outcome { IfOk result (λ o. IsAnswer store.new o (methods.claim (sents_of store.old base.now) (sentence_of (value_at store.old v)) at)) }
+    ensures sorted { (sig : Declared) → IsSortedIn sig store.old → IsSortedIn sig store.new }
+    ensures outcome { IfOk result (λ o. IsSteady store.new o (methods.claim (sents_of store.old base.now) (sentence_of (value_at store.old v)) at)) }
 {
     match sentence(store, v)? {
         Some(p) => {
@@ -188,10 +108,10 @@ fn detach(
 ) -> Result<Outcome, AllocError>
     requires base { AreIn store.now base.now }
     requires implication { p.0 < length store.now.sents }
-    requires small { IsSmall (sent_at store.now.sents p.0) }
+    requires small { IsSmallValue (a_sentence (sent_at store.now.sents p.0)) }
     requires joined { AreParts store.now (sent_at store.now.sents p.0) (Some parts) }
     requires premise { q.0 < length store.now.sents }
-    ensures { IfOk result (λ o. IsAnswer store.now o (methods.detached (sents_of store.now base.now) (sent_at store.now.sents p.0) (sent_at store.now.sents parts.0.0) (sent_at store.now.sents parts.1.0) (sent_at store.now.sents q.0) at)) }
+    ensures { IfOk result (λ o. IsSteady store.now o (methods.detached (sents_of store.now base.now) (sent_at store.now.sents p.0) (sent_at store.now.sents parts.0.0) (sent_at store.now.sents parts.1.0) (sent_at store.now.sents q.0) at)) }
 {
     let (a, b) = parts;
     if !is_same_sent(store, q, a) {
@@ -221,11 +141,12 @@ fn from_implication(
 ) -> Result<Outcome, AllocError>
     requires base { AreIn store.old base.now }
     requires implication { p.0 < length store.old.sents }
-    requires small { IsSmall (sent_at store.old.sents p.0) }
+    requires small { IsSmallValue (a_sentence (sent_at store.old.sents p.0)) }
     requires joined { AreParts store.old (sent_at store.old.sents p.0) (Some parts) }
     requires premise { IsGood store.old w }
     ensures grows { Grows store.old store.new }
-    ensures outcome { IfOk result (λ o. IsAnswer store.new o (methods.from_implication (sents_of store.old base.now) (sent_at store.old.sents p.0) (sent_at store.old.sents parts.0.0) (sent_at store.old.sents parts.1.0) (sentence_of (value_at store.old w)) at)) }
+    ensures sorted { (sig : Declared) → IsSortedIn sig store.old → IsSortedIn sig store.new }
+    ensures outcome { IfOk result (λ o. IsSteady store.new o (methods.from_implication (sents_of store.old base.now) (sent_at store.old.sents p.0) (sent_at store.old.sents parts.0.0) (sent_at store.old.sents parts.1.0) (sentence_of (value_at store.old w)) at)) }
 {
     match sentence(store, w)? {
         Some(q) => {
@@ -250,10 +171,11 @@ fn modus_ponens(
 ) -> Result<Outcome, AllocError>
     requires base { AreIn store.old base.now }
     requires implication { p.0 < length store.old.sents }
-    requires small { IsSmall (sent_at store.old.sents p.0) }
+    requires small { IsSmallValue (a_sentence (sent_at store.old.sents p.0)) }
     requires premise { IsGood store.old w }
     ensures grows { Grows store.old store.new }
-    ensures outcome { IfOk result (λ o. IsAnswer store.new o (methods.modus_ponens (sents_of store.old base.now) (sent_at store.old.sents p.0) (sentence_of (value_at store.old w)) at)) }
+    ensures sorted { (sig : Declared) → IsSortedIn sig store.old → IsSortedIn sig store.new }
+    ensures outcome { IfOk result (λ o. IsSteady store.new o (methods.modus_ponens (sents_of store.old base.now) (sent_at store.old.sents p.0) (sentence_of (value_at store.old w)) at)) }
 {
     match implication_parts(store, p) {
         Some(parts) => {
@@ -280,7 +202,8 @@ pub(crate) fn mp(
     requires implication { IsGood store.old v }
     requires premise { IsGood store.old w }
     ensures grows { Grows store.old store.new }
-    ensures outcome { IfOk result (λ o. IsAnswer store.new o (methods.mp (sents_of store.old base.now) (sentence_of (value_at store.old v)) (sentence_of (value_at store.old w)) at)) }
+    ensures sorted { (sig : Declared) → IsSortedIn sig store.old → IsSortedIn sig store.new }
+    ensures outcome { IfOk result (λ o. IsSteady store.new o (methods.mp (sents_of store.old base.now) (sentence_of (value_at store.old v)) (sentence_of (value_at store.old w)) at)) }
 {
     match sentence(store, v)? {
         Some(p) => {

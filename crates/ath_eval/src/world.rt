@@ -1,16 +1,17 @@
 // What an evaluation runs in, and how it ends.
 
 ghost use Rattle.ath_eval.specs.Base.{AreIn};
+ghost use Rattle.ath_eval.specs.Room.{IsRoomy, IsNarrow};
 
 use ath_env::Value;
 use ath_names::Names;
 use ath_print::Fault;
 use ath_sorts::Signature;
 use ath_syntax::{Phrases, Pos};
-use ath_terms::{SentId, Store};
+use ath_terms::{Fresh, SentId, Store};
 
 /// The state of a run: the names, what is declared, the nodes of sentences and of phrases, the assumption base with its
-/// oldest sentence first, and the steps that are left.
+/// oldest sentence first, the steps that are left, and the counters of fresh names.
 #[derive(Drop)]
 pub struct World {
     pub names: Names,
@@ -19,7 +20,10 @@ pub struct World {
     pub base: Vec<SentId>,
     pub phrases: Phrases,
     pub fuel: u64,
+    pub fresh: Fresh,
     ghost in_store: { AreIn store base.items },
+    ghost roomy: { IsRoomy fuel fresh },
+    ghost narrow: { IsNarrow sig },
 }
 
 /// How an evaluation ends.

@@ -1,3 +1,6 @@
-mod LineLaws
+mod EmptyStore
+mod PieceLaws
+pub mod PrefixLaws
 mod Rows
+mod Searches
 pub mod StandLaws

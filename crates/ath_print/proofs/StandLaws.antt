@@ -6,20 +6,26 @@ use Rattle.ath_terms.specs.Trees.{Trees, Grows}
 use Rattle.ath_env.proofs.ValueLaws.{is_in-kept, value_at-kept}
 use Rattle.ath_print.specs.declared.fault.Fault.{Fault}
 use Rattle.ath_print.specs.declared.fault.FaultArg.{FaultArg}
-use Rattle.ath_print.specs.declared.fault.FaultArg.TheVariants.{Sent, Name, Number}
+use Rattle.ath_print.specs.declared.fault.FaultArg.TheVariants.{Sent, Term, Sort, Name, SortName, Number}
 use Rattle.ath_print.specs.declared.event.Event.{Event as Told}
-use Rattle.ath_print.specs.declared.event.Event.TheVariants.{Symbols, Assertion, Theorem, Shown, Error, Fuel}
-use Rattle.ath_print.specs.Events.{Refusal, Event, sentence_named, asserted, proved, shown, refused}
+use Rattle.ath_print.specs.declared.event.Event.TheVariants.{Domain, Symbols, Assertion, Theorem, Shown, Error, Fuel}
+use Rattle.ath_print.specs.Events.{Refusal, Event, sentence_named, term_named, asserted, proved, shown, refused}
 use Rattle.ath_print.specs.Stands.{argument_of, IsArgumentIn, refusal_of, IsFaultIn, IsFault, event_of, IsEventIn, IsEvent}
 
 module _ (s u : Trees) (g : Grows s u) where
   argument_in-kept : (a : FaultArg) → IsArgumentIn s a → IsArgumentIn u a
   argument_in-kept (Sent p) h = omega (arith, g.sents, h)
+  argument_in-kept (Term t) h = omega (arith, g.terms, h)
+  argument_in-kept (Sort r) h = tt
+  argument_in-kept (SortName n) h = tt
   argument_in-kept (Name n) h = tt
   argument_in-kept (Number n) h = tt
 
   argument-kept : (a : FaultArg) → IsArgumentIn s a → argument_of u a ≡ argument_of s a
   argument-kept (Sent p) h = ap sentence_named (g.same_sents p.0 h)
+  argument-kept (Term t) h = ap term_named (g.same_terms t.0 h)
+  argument-kept (Sort r) h = refl
+  argument-kept (SortName n) h = refl
   argument-kept (Name n) h = refl
   argument-kept (Number n) h = refl
 
@@ -40,6 +46,7 @@ module _ (s u : Trees) (g : Grows s u) where
   fault-kept f why h = (fault_in-kept f h.0, refusal-kept f h.0 ∙ h.1)
 
   pub event_in-kept : (e : Told) → IsEventIn s e → IsEventIn u e
+  event_in-kept (Domain n) h = tt
   event_in-kept (Symbols ns) h = tt
   event_in-kept (Assertion p) h = omega (arith, g.sents, h)
   event_in-kept (Theorem p) h = omega (arith, g.sents, h)
@@ -48,6 +55,7 @@ module _ (s u : Trees) (g : Grows s u) where
   event_in-kept (Fuel at) h = tt
 
   pub event_of-kept : (e : Told) → IsEventIn s e → event_of u e ≡ event_of s e
+  event_of-kept (Domain n) h = refl
   event_of-kept (Symbols ns) h = refl
   event_of-kept (Assertion p) h = ap asserted (g.same_sents p.0 h)
   event_of-kept (Theorem p) h = ap proved (g.same_sents p.0 h)

@@ -10,6 +10,7 @@ use sqlite_items::Items;
 /// What a directive does that is told.
 #[derive(Debug, Drop)]
 pub enum Event {
+    Domain(Sym),
     Symbols(Items<Sym>),
     Assertion(SentId),
     Theorem(SentId),

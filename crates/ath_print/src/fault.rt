@@ -1,9 +1,9 @@
 // Why a directive or a text is refused.
 
-ghost use Rattle.std.specs.Prelude.{◌≡◌, [], IfOk};
+ghost use Rattle.std.specs.Prelude.{◌≡◌, [], ◌∷◌, IfOk};
 
-use ath_sorts::Sym;
-use ath_terms::SentId;
+use ath_sorts::{Sort, Sym};
+use ath_terms::{SentId, TermId};
 use sqlite_items::Items;
 use std::alloc::{AllocError, Global};
 
@@ -20,24 +20,36 @@ pub enum FaultKind {
     TooDeep,
     NotBuilt,
     Redeclared,
+    UnknownSort,
+    Arity,
+    LooseParam,
+    TooWide,
+    SortTooLarge,
     Unbound,
     FileTooLong,
     TooManyLoads,
+    SortClash,
     ArgCount,
+    NotBoolean,
     TooLarge,
     TooNested,
     WrongKind,
     WrongShape,
     NotInBase,
+    NotApplicable,
     NotMethod,
     NotSentence,
 }
 
 /// What a fault names.
-#[derive(Clone, Copy, Debug)]
+#[derive(Debug, Drop)]
 pub enum FaultArg {
     Sent(SentId),
+    Term(TermId),
+    Sort(Sort),
     Name(Sym),
+    /// a sort variable, by its name as it is written
+    SortName(Sym),
     Number(u64),
 }
 
@@ -60,11 +72,27 @@ impl Fault {
         }
     }
 
-    /// A fault that names these.
-    pub fn naming(alloc: Global, kind: FaultKind, args: &[FaultArg]) -> Result<Fault, AllocError>
-        ensures { IfOk result (λ fault. (fault.kind ≡ kind) × (fault.args ≡ args.now)) }
+    /// A fault that names one thing.
+    pub fn naming(alloc: Global, kind: FaultKind, arg: FaultArg) -> Result<Fault, AllocError>
+        ensures { IfOk result (λ fault. (fault.kind ≡ kind) × (fault.args ≡ arg ∷ [])) }
     {
-        let args = Items::from_slice(alloc, args)?;
+        let mut args = Items::new(alloc);
+        args.push(arg)?;
+        Ok(Fault { kind, args })
+    }
+
+    /// A fault that names two things.
+    pub fn naming_two(
+        alloc: Global,
+        kind: FaultKind,
+        first: FaultArg,
+        second: FaultArg,
+    ) -> Result<Fault, AllocError>
+        ensures { IfOk result (λ fault. (fault.kind ≡ kind) × (fault.args ≡ first ∷ second ∷ [])) }
+    {
+        let mut args = Items::new(alloc);
+        args.push(first)?;
+        args.push(second)?;
         Ok(Fault { kind, args })
     }
 }

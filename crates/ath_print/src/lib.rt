@@ -1,10 +1,14 @@
 //! Faults and events, and the lines that tell them.
 #![tactic(auto)]
 
+mod draft;
 pub mod event;
 pub mod fault;
 pub mod lines;
 mod pieces;
+mod sents;
+mod sorts;
+mod terms;
 #[cfg(test)]
 mod tests;
 mod words;

@@ -1,20 +1,21 @@
 -- What is built, by the nodes of phrases.
-use Rattle.std.proofs.Common.{◌≡◌, ℕ, ◌<◌, ◌+◌, ◌&&◌, not, Bool, true, false, List, [], ◌∷◌, length, get_or, take, drop, Option, Some, None, is_some, cond, refl, sym, ◌∙◌, ap, subst, add-one, drop-cons, arith}
+use Rattle.std.proofs.Common.{◌≡◌, ℕ, ◌<◌, ◌+◌, ◌&&◌, ◌||◌, not, Bool, true, false, List, [], ◌∷◌, length, get_or, take, drop, Option, Some, None, is_some, cond, refl, sym, ◌∙◌, ap, subst, add-one, drop-cons, arith}
 use Rattle.std.specs.Prelude.{slice_get, codes}
 use Rattle.std.specs.List.{All}
 use Rattle.std.specs.Str.{bytes_eq}
 use Rattle.std.proofs.lemmas.List.{length-take, drop_all}
-use Rattle.std.proofs.lemmas.List.Elements.{All-weaker}
+use Rattle.std.proofs.lemmas.List.Elements.{All-weaker, All-nil, All-cons, All-same}
 use Rattle.std.proofs.lemmas.Option.{slice_get_within}
 use Rattle.ath_sorts.specs.declared.sorts.Sym.{Sym}
 use Rattle.ath_syntax.specs.declared.place.Pos.{Pos}
 use Rattle.ath_syntax.specs.declared.node.PhraseId.{PhraseId}
 use Rattle.ath_syntax.specs.declared.node.Form.{Form}
-use Rattle.ath_syntax.specs.declared.node.Form.TheVariants.{Name, Apply, Call}
+use Rattle.ath_syntax.specs.declared.node.Form.TheVariants.{Name, Var, Ascribe, Apply, Call}
+use Rattle.ath_syntax.specs.declared.node.SortText.{SortText}
 use Rattle.ath_syntax.specs.declared.node.Node.{Node}
 use Rattle.ath_syntax.specs.Nodes.{Nodes}
 use Rattle.ath_syntax.specs.Fits.{IsPart, IsKind, FitsForm, before}
-use Rattle.ath_syntax.specs.Tree.{Phrase, name_at, apply_at, call_at, Phrases, no_phrases, more_phrases, is_deduction}
+use Rattle.ath_syntax.specs.Tree.{Phrase, name_at, variable_at, ascribe_at, apply_at, call_at, Phrases, no_phrases, more_phrases, is_deduction}
 use Rattle.ath_syntax.specs.Stands.{IsPhrase, IsNode, is_node, IsForm, is_name, is_variable, is_string, is_list, is_ascribe, is_apply, is_call, is_lambda, is_method, is_let, is_letrec, is_match, is_check, is_try, is_seq, is_assume, is_absurd, is_pick_any, is_pick_witness, is_induct, is_cases, is_conclude, ArePhrases, phrases_none, phrases_more}
 use Rattle.ath_syntax.proofs.Growth.{part_of_kind}
 use Rattle.ath_syntax.proofs.NodeLaws.{node_at, part_of}
@@ -37,6 +38,11 @@ module _ (s : Nodes) where
   apply_below n d f j is e h =
       let k = subst (λ (g : Form). FitsForm (before s n) d g) e h in
       All-weaker (IsKind (before s n) false) (λ (i : PhraseId). i.0 < n) (below_of_kind n false) is k.2
+
+  pub ascribe_below : (n : ℕ) (d : Bool) (f : Form) (j : PhraseId) (o : SortText) (is : List PhraseId) → f ≡ Ascribe j o → is ≡ j ∷ [] → FitsForm (before s n) d f → All (λ i. i.0 < n) is
+  ascribe_below n d f j o is e same h =
+      let k = subst (λ (g : Form). FitsForm (before s n) d g) e h in
+      All-same (λ (i : PhraseId). i.0 < n) is (j ∷ []) same (All-cons (λ (i : PhraseId). i.0 < n) j [] (below_of_kind n false j k.1) (All-nil (λ (i : PhraseId). i.0 < n)))
 
   pub call_below : (n : ℕ) (d : Bool) (f : Form) (j : PhraseId) (is : List PhraseId) → f ≡ Call j is → FitsForm (before s n) d f → All (λ i. i.0 < n) is
   call_below n d f j is e h =
@@ -80,6 +86,39 @@ module _ (s : Nodes) where
   pub no_name_here : (names : List (List ℕ)) (text : List ℕ) (i : PhraseId) (n : Node) → slice_get s.phrases i.0 ≡ Some n → ((y : Sym) → n.form ≡ Name y → ⊥) → (x : Phrase) → IsPhrase s i x → false ≡ built.is_name names text x
   no_name_here names text i n at nn x h = no_name_form names text n.pos n.form x nn (form_here s i n x h at)
 
+  pub head_here : (names : List (List ℕ)) (i : PhraseId) (n : Node) (y : Sym) → slice_get s.phrases i.0 ≡ Some n → n.form ≡ Name y → (x : Phrase) → IsPhrase s i x → not (bytes_eq (text_of names y) (codes "forall") || bytes_eq (text_of names y) (codes "exists")) ≡ built.is_head names x
+  head_here names i n y at e x h = go x (subst (λ (f : Form). IsForm s n.pos f x) e (form_here s i n x h at))
+    where
+      go : (x : Phrase) → IsForm s n.pos (Name y) x → not (bytes_eq (text_of names y) (codes "forall") || bytes_eq (text_of names y) (codes "exists")) ≡ built.is_head names x
+      go x is_name = refl
+
+  no_head_form : (names : List (List ℕ)) (p : Pos) (f : Form) (x : Phrase) → ((y : Sym) → f ≡ Name y → ⊥) → IsForm s p f x → false ≡ built.is_head names x
+  no_head_form names p f x nn (is_name {x = y}) = absurd (nn y refl)
+  no_head_form names p f x nn is_variable = refl
+  no_head_form names p f x nn is_string = refl
+  no_head_form names p f x nn (is_list h) = refl
+  no_head_form names p f x nn (is_ascribe h) = refl
+  no_head_form names p f x nn (is_apply h k) = refl
+  no_head_form names p f x nn (is_call h k) = refl
+  no_head_form names p f x nn (is_lambda h) = refl
+  no_head_form names p f x nn (is_method h) = refl
+  no_head_form names p f x nn (is_let h k) = refl
+  no_head_form names p f x nn (is_letrec h k) = refl
+  no_head_form names p f x nn (is_match h k) = refl
+  no_head_form names p f x nn (is_check h k) = refl
+  no_head_form names p f x nn (is_try h) = refl
+  no_head_form names p f x nn (is_seq h) = refl
+  no_head_form names p f x nn (is_assume h k) = refl
+  no_head_form names p f x nn (is_absurd h k) = refl
+  no_head_form names p f x nn (is_pick_any h) = refl
+  no_head_form names p f x nn (is_pick_witness h k) = refl
+  no_head_form names p f x nn (is_induct h k) = refl
+  no_head_form names p f x nn (is_cases h k) = refl
+  no_head_form names p f x nn (is_conclude h k) = refl
+
+  pub no_head_here : (names : List (List ℕ)) (i : PhraseId) (n : Node) → slice_get s.phrases i.0 ≡ Some n → ((y : Sym) → n.form ≡ Name y → ⊥) → (x : Phrase) → IsPhrase s i x → false ≡ built.is_head names x
+  no_head_here names i n at nn x h = no_head_form names n.pos n.form x nn (form_here s i n x h at)
+
   -- ---- heads and parts
   pub record Application (p : Pos) (j : PhraseId) (is : List PhraseId) (x : Phrase) : Type 0 where
     pub head : Phrase
@@ -113,11 +152,23 @@ module _ (s : Nodes) where
       go : (x : Phrase) → IsForm s n.pos (Name y) x → AreParts s (Some []) (parts names x)
       go x is_name = phrases_none
 
+  pub variable_parts : (names : List (List ℕ)) (i : PhraseId) (n : Node) (y : Sym) (k : ℕ) (o : Option SortText) → slice_get s.phrases i.0 ≡ Some n → n.form ≡ Var y k o → (x : Phrase) → IsPhrase s i x → AreParts s (Some []) (parts names x)
+  variable_parts names i n y k o at e x h = go x (subst (λ (f : Form). IsForm s n.pos f x) e (form_here s i n x h at))
+    where
+      go : (x : Phrase) → IsForm s n.pos (Var y k o) x → AreParts s (Some []) (parts names x)
+      go x is_variable = phrases_none
+
+  pub ascribe_parts : (names : List (List ℕ)) (i : PhraseId) (n : Node) (j : PhraseId) (o : SortText) (is : List PhraseId) → slice_get s.phrases i.0 ≡ Some n → n.form ≡ Ascribe j o → is ≡ j ∷ [] → (x : Phrase) → IsPhrase s i x → AreParts s (Some is) (parts names x)
+  ascribe_parts names i n j o is at e same x h = subst (λ (is : List PhraseId). AreParts s (Some is) (parts names x)) (sym same) (go x (subst (λ (f : Form). IsForm s n.pos f x) e (form_here s i n x h at)))
+    where
+      go : (x : Phrase) → IsForm s n.pos (Ascribe j o) x → AreParts s (Some (j ∷ [])) (parts names x)
+      go x (is_ascribe a) = phrases_more a phrases_none
+
   parts_where : (is : List PhraseId) (xs : Phrases) → ArePhrases s is xs → (b : Bool) → AreParts s (cond b (Some is) None) (cond b (Some xs) None)
   parts_where is xs h true = h
   parts_where is xs h false = tt
 
-  pub apply_parts : (names : List (List ℕ)) (b : Bool) (i : PhraseId) (n : Node) (j : PhraseId) (is : List PhraseId) → slice_get s.phrases i.0 ≡ Some n → n.form ≡ Apply j is → ((y : Phrase) → IsPhrase s j y → b ≡ built.is_name names (codes "if") y) → (x : Phrase) → IsPhrase s i x → AreParts s (cond b (Some is) None) (parts names x)
+  pub apply_parts : (names : List (List ℕ)) (b : Bool) (i : PhraseId) (n : Node) (j : PhraseId) (is : List PhraseId) → slice_get s.phrases i.0 ≡ Some n → n.form ≡ Apply j is → ((y : Phrase) → IsPhrase s j y → b ≡ built.is_head names y) → (x : Phrase) → IsPhrase s i x → AreParts s (cond b (Some is) None) (parts names x)
   apply_parts names b i n j is at e f x h =
       let a = apply_here i n j is at e x h in
       let k = parts_where is a.args a.are_args b in
@@ -129,32 +180,32 @@ module _ (s : Nodes) where
       let k = parts_where is a.args a.are_args b in
       subst (λ (y : Phrase). AreParts s (cond b (Some is) None) (parts names y)) (sym a.whole) (subst (λ (c : Bool). AreParts s (cond b (Some is) None) (cond c (Some a.args) None)) (f a.head a.args a.is_head a.are_args) k)
 
-  other_parts : (names : List (List ℕ)) (p : Pos) (f : Form) (x : Phrase) → ((y : Sym) → f ≡ Name y → ⊥) → ((j : PhraseId) (is : List PhraseId) → f ≡ Apply j is → ⊥) → ((j : PhraseId) (is : List PhraseId) → f ≡ Call j is → ⊥) → IsForm s p f x → AreParts s None (parts names x)
-  other_parts names p f x nn na nc (is_name {x = y}) = absurd (nn y refl)
-  other_parts names p f x nn na nc is_variable = tt
-  other_parts names p f x nn na nc is_string = tt
-  other_parts names p f x nn na nc (is_list h) = tt
-  other_parts names p f x nn na nc (is_ascribe h) = tt
-  other_parts names p f x nn na nc (is_apply {i = j} {is = js} h k) = absurd (na j js refl)
-  other_parts names p f x nn na nc (is_call {i = j} {is = js} h k) = absurd (nc j js refl)
-  other_parts names p f x nn na nc (is_lambda h) = tt
-  other_parts names p f x nn na nc (is_method h) = tt
-  other_parts names p f x nn na nc (is_let h k) = tt
-  other_parts names p f x nn na nc (is_letrec h k) = tt
-  other_parts names p f x nn na nc (is_match h k) = tt
-  other_parts names p f x nn na nc (is_check h k) = tt
-  other_parts names p f x nn na nc (is_try h) = tt
-  other_parts names p f x nn na nc (is_seq h) = tt
-  other_parts names p f x nn na nc (is_assume h k) = tt
-  other_parts names p f x nn na nc (is_absurd h k) = tt
-  other_parts names p f x nn na nc (is_pick_any h) = tt
-  other_parts names p f x nn na nc (is_pick_witness h k) = tt
-  other_parts names p f x nn na nc (is_induct h k) = tt
-  other_parts names p f x nn na nc (is_cases h k) = tt
-  other_parts names p f x nn na nc (is_conclude h k) = tt
+  other_parts : (names : List (List ℕ)) (p : Pos) (f : Form) (x : Phrase) → ((y : Sym) → f ≡ Name y → ⊥) → ((y : Sym) (k : ℕ) (o : Option SortText) → f ≡ Var y k o → ⊥) → ((j : PhraseId) (o : SortText) → f ≡ Ascribe j o → ⊥) → ((j : PhraseId) (is : List PhraseId) → f ≡ Apply j is → ⊥) → ((j : PhraseId) (is : List PhraseId) → f ≡ Call j is → ⊥) → IsForm s p f x → AreParts s None (parts names x)
+  other_parts names p f x nn nv ns na nc (is_name {x = y}) = absurd (nn y refl)
+  other_parts names p f x nn nv ns na nc (is_variable {x = y} {k = k} {o = o}) = absurd (nv y k o refl)
+  other_parts names p f x nn nv ns na nc is_string = tt
+  other_parts names p f x nn nv ns na nc (is_list h) = tt
+  other_parts names p f x nn nv ns na nc (is_ascribe {i = j} {o = o} h) = absurd (ns j o refl)
+  other_parts names p f x nn nv ns na nc (is_apply {i = j} {is = js} h k) = absurd (na j js refl)
+  other_parts names p f x nn nv ns na nc (is_call {i = j} {is = js} h k) = absurd (nc j js refl)
+  other_parts names p f x nn nv ns na nc (is_lambda h) = tt
+  other_parts names p f x nn nv ns na nc (is_method h) = tt
+  other_parts names p f x nn nv ns na nc (is_let h k) = tt
+  other_parts names p f x nn nv ns na nc (is_letrec h k) = tt
+  other_parts names p f x nn nv ns na nc (is_match h k) = tt
+  other_parts names p f x nn nv ns na nc (is_check h k) = tt
+  other_parts names p f x nn nv ns na nc (is_try h) = tt
+  other_parts names p f x nn nv ns na nc (is_seq h) = tt
+  other_parts names p f x nn nv ns na nc (is_assume h k) = tt
+  other_parts names p f x nn nv ns na nc (is_absurd h k) = tt
+  other_parts names p f x nn nv ns na nc (is_pick_any h) = tt
+  other_parts names p f x nn nv ns na nc (is_pick_witness h k) = tt
+  other_parts names p f x nn nv ns na nc (is_induct h k) = tt
+  other_parts names p f x nn nv ns na nc (is_cases h k) = tt
+  other_parts names p f x nn nv ns na nc (is_conclude h k) = tt
 
-  pub no_parts_here : (names : List (List ℕ)) (i : PhraseId) (n : Node) → slice_get s.phrases i.0 ≡ Some n → ((y : Sym) → n.form ≡ Name y → ⊥) → ((j : PhraseId) (is : List PhraseId) → n.form ≡ Apply j is → ⊥) → ((j : PhraseId) (is : List PhraseId) → n.form ≡ Call j is → ⊥) → (x : Phrase) → IsPhrase s i x → AreParts s None (parts names x)
-  no_parts_here names i n at nn na nc x h = other_parts names n.pos n.form x nn na nc (form_here s i n x h at)
+  pub no_parts_here : (names : List (List ℕ)) (i : PhraseId) (n : Node) → slice_get s.phrases i.0 ≡ Some n → ((y : Sym) → n.form ≡ Name y → ⊥) → ((y : Sym) (k : ℕ) (o : Option SortText) → n.form ≡ Var y k o → ⊥) → ((j : PhraseId) (o : SortText) → n.form ≡ Ascribe j o → ⊥) → ((j : PhraseId) (is : List PhraseId) → n.form ≡ Apply j is → ⊥) → ((j : PhraseId) (is : List PhraseId) → n.form ≡ Call j is → ⊥) → (x : Phrase) → IsPhrase s i x → AreParts s None (parts names x)
+  no_parts_here names i n at nn nv ns na nc x h = other_parts names n.pos n.form x nn nv ns na nc (form_here s i n x h at)
 
   -- ---- lists of phrases, from a place on
   pub record Front (is : List PhraseId) (k : ℕ) (i : PhraseId) (xs : Phrases) : Type 0 where
@@ -229,9 +280,15 @@ told_where : (names : List (List ℕ)) (x : Phrase) (xs : Phrases) (b : Bool) �
 told_where names x xs true = refl
 told_where names x xs false = refl
 
+or_none : (o : Option Pos) → built.or_else o None ≡ o
+or_none None = refl
+or_none (Some p) = refl
+
 unbuilt_by_parts : (names : List (List ℕ)) (x : Phrase) → built.unbuilt names x ≡ told names x (parts names x)
 unbuilt_by_parts names (name_at p n) = refl
-unbuilt_by_parts names (apply_at p f xs) = told_where names (apply_at p f xs) xs (built.is_name names (codes "if") f)
+unbuilt_by_parts names (variable_at p x k s) = refl
+unbuilt_by_parts names (ascribe_at p x s) = sym (or_none (built.unbuilt names x))
+unbuilt_by_parts names (apply_at p f xs) = told_where names (apply_at p f xs) xs (built.is_head names f)
 unbuilt_by_parts names (call_at p f xs) = told_where names (call_at p f xs) xs (built.is_method_name names f && built.are_expressions xs)
 unbuilt_by_parts names x = refl
 

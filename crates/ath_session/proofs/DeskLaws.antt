@@ -127,14 +127,14 @@ module _ (xs : List Item) (c : Configuration) (h : Halt) (before after : Bool) (
   out_after (items, (same, errors, all)) = (xs, (refl, all ∙ ap (λ (m : Move). after_items o (items_of m)) (sym same)))
 
 -- one line is put, or a front of it
-module _ (c : Configuration) (e : events.Event) (told : Option Texts) (sink sink' : Option Held) (bytes : List ℕ) (is : bytes ≡ line_of c.state.names c.files e) where
+module _ (c : Configuration) (e : events.Event) (told : Option Texts) (sink sink' : Option Held) (bytes : List ℕ) (is : bytes ≡ line_of c.state.names c.state.signature c.files e) where
   pub line_failed : (before : Bool) (count : ℕ) → sink' ≡ with_put sink (take count bytes) → Ended (goes (said c e ∷ []) c) SinkFault before (record { shelf = told; sink = sink }) (record { shelf = told; sink = sink' })
   line_failed before count put = (
     [],
     [],
-    record { event = e; line = line_of c.state.names c.files e },
+    record { event = e; line = line_of c.state.names c.state.signature c.files e; declared = c.state.signature },
     count,
-    (refl, ap (λ (k : Option Held). record { shelf = told; sink = k }) (put ∙ ap (λ (bs : List ℕ). with_put sink (take count bs)) is) ∙ ap (λ (t : Option Texts). record { shelf = t; sink = with_put sink (take count (line_of c.state.names c.files e)) }) (sym (asked_none told))),
+    (refl, ap (λ (k : Option Held). record { shelf = told; sink = k }) (put ∙ ap (λ (bs : List ℕ). with_put sink (take count bs)) is) ∙ ap (λ (t : Option Texts). record { shelf = t; sink = with_put sink (take count (line_of c.state.names c.state.signature c.files e)) }) (sym (asked_none told))),
   )
 
 pub put_failed : {E : Type 0} (before after : Option Held) (bytes : List ℕ) (r : Result (Unit {0}) E) → Puts before bytes r after → is_err r ≡ true → (count : ℕ) × (after ≡ with_put before (take count bytes))
@@ -142,8 +142,8 @@ put_failed before after bytes (Ok u) h e = absurd (cc)
 put_failed before after bytes (Err x) h e = h
 
 -- a line over a world and names that are these
-pub line_there : (w v : World) (files files' : List (List ℕ)) (e : Told) (bytes : List ℕ) → v ≡ w → files' ≡ files → bytes ≡ line_of v.names files' (event_of v.store e) → bytes ≡ line_of w.names files (event_of w.store e)
-line_there w v files files' e bytes same are is = is ∙ ap (λ (u : World). line_of u.names files' (event_of u.store e)) same ∙ ap (λ (fs : List (List ℕ)). line_of w.names fs (event_of w.store e)) are
+pub line_there : (w v : World) (files files' : List (List ℕ)) (e : Told) (bytes : List ℕ) → v ≡ w → files' ≡ files → bytes ≡ line_of v.names v.sig files' (event_of v.store e) → bytes ≡ line_of w.names w.sig files (event_of w.store e)
+line_there w v files files' e bytes same are is = is ∙ ap (λ (u : World). line_of u.names u.sig files' (event_of u.store e)) same ∙ ap (λ (fs : List (List ℕ)). line_of w.names w.sig fs (event_of w.store e)) are
 
 pub plain_is : (s : Trees) (f : Fault) (kind : FaultKind) → f.kind ≡ kind → f.args ≡ [] → refusal_of s f ≡ refusal kind []
 plain_is s f kind k none = rw (k, none) refl

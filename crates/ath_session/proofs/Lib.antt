@@ -1,6 +1,5 @@
 pub mod AdvanceLaws
 pub mod BuiltLaws
-pub mod Declares
 pub mod DeskLaws
 pub mod Existence
 pub mod MoveLaws
@@ -16,3 +15,7 @@ pub mod TellingLaws
 pub mod TopLaws
 pub mod WeightLaws
 pub mod WholeLines
+mod DeclareLaws
+mod Differ
+mod NewLaws
+mod FuelLaws

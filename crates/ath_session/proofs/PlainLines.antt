@@ -1,24 +1,37 @@
 -- The line of an event has one LF, at its end, where no name has one.
-use Rattle.std.proofs.Common.{◌≡◌, ◌<◌, ◌+◌, ◌/◌, ◌%◌, ℕ, zero, suc, Bool, true, false, ◌||◌, ◌==◌, nat_lt, List, [], ◌∷◌, ◌++◌, refl, ◌∙◌, ap, codes, arith, if◌then◌else◌}
+use Rattle.std.proofs.Common.{◌≡◌, ◌<◌, ◌+◌, ◌/◌, ◌%◌, ◌↔◌, ℕ, zero, suc, Bool, true, false, ◌||◌, ◌==◌, nat_lt, List, [], ◌∷◌, ◌++◌, map, length, Option, Some, None, refl, sym, ◌∙◌, ap, subst, take, codes, arith, if◌then◌else◌}
 use Rattle.std.proofs.lemmas.Grind.{common_steps}
 use Rattle.std.proofs.lemmas.List.Folds.{list_any-append}
-use Rattle.std.specs.Prelude.{slice_index_or}
-use Rattle.std.specs.List.{flat_map, AllByRecursion}
+use Rattle.std.specs.Prelude.{position, slice_index_or}
+use Rattle.std.specs.List.{flat_map, list_any, AllByRecursion}
 use Rattle.std.specs.Fmt.{decimal, digits, digits_onto, digit_glyph}
 use Rattle.ath_sorts.specs.declared.sorts.Sym.{Sym}
+use Rattle.ath_sorts.specs.declared.sorts.SVar.{SVar}
+use Rattle.ath_sorts.specs.declared.sorts.Sort.{Sort, Var, Con}
+use Rattle.ath_sorts.specs.declared.sorts.Sort.TheOpen as one
+use Rattle.ath_sorts.specs.declared.sorts.Sort.TheVariants.{rolls-Var, rolls-Con}
+use Rattle.ath_sorts.specs.declared.sorts.Sort.TheFolds.{fold-roll-Sort}
+use Rattle.ath_sorts.specs.Signature.{Signature, symbol_of}
+use Rattle.ath_sorts.specs.Sorts.{same_svar}
+use Rattle.ath_sorts.proofs.SortLaws.{sort_induction}
 use Rattle.ath_syntax.specs.declared.place.Pos.{Pos}
+use Rattle.ath_terms.specs.declared.node.Var.{Var as Variable}
 use Rattle.ath_terms.specs.declared.node.Conn.{Conn}
 use Rattle.ath_terms.specs.declared.node.Conn.TheVariants.{Not, And, Or, If, Iff}
 use Rattle.ath_terms.specs.declared.node.Quant.{Quant}
 use Rattle.ath_terms.specs.declared.node.Quant.TheVariants.{Forall, Exists}
-use Rattle.ath_terms.specs.Tree.{Term, var, app, Sent, atom, equal, negated, joined, bound}
+use Rattle.ath_terms.specs.SortsIn.{result_sort}
+use Rattle.ath_terms.specs.Tree.{Term, Terms, var, app, none, more, Sent, atom, equal, negated, joined, bound}
+use Rattle.ath_terms.specs.Variables.{same_var}
 use Rattle.ath_env.specs.Values.{Value, a_term, a_sentence, a_symbol, a_connective, a_quantifier, a_back, a_method}
 use Rattle.ath_env.specs.LookUp.{text_of}
 use Rattle.ath_print.specs.declared.fault.FaultKind.{FaultKind}
-use Rattle.ath_print.specs.declared.fault.FaultKind.TheVariants.{BadUtf8, BadChar, OpenString, NameTooLong, Unexpected, Unclosed, KindMix, TooDeep, NotBuilt, Redeclared, Unbound, FileTooLong, TooManyLoads, ArgCount, TooLarge, TooNested, WrongKind, WrongShape, NotInBase, NotMethod, NotSentence}
-use Rattle.ath_print.specs.Events.{Argument, sentence_named, name_named, number_named, Refusal, Event, declared, asserted, proved, shown, refused, exhausted}
-use Rattle.ath_print.specs.Lines.{conn_text, quant_text, term_text, printed, listed_after, listed, hex_digit, escaped, quoted, method_text, kind_text, argument_text, arguments_text, refusal_text, place_text, line_of}
-use Rattle.ath_session.specs.Laws.{has_line_end, IsLine}
+use Rattle.ath_print.specs.declared.fault.FaultKind.TheVariants.{BadUtf8, BadChar, OpenString, NameTooLong, Unexpected, Unclosed, KindMix, TooDeep, NotBuilt, Redeclared, UnknownSort, Arity, LooseParam, TooWide, SortTooLarge, Unbound, FileTooLong, TooManyLoads, SortClash, ArgCount, NotBoolean, TooLarge, TooNested, WrongKind, WrongShape, NotInBase, NotApplicable, NotMethod, NotSentence}
+use Rattle.ath_print.specs.Events.{Argument, sentence_named, term_named, sort_named, variable_named, name_named, number_named, Refusal, Event, domain_declared, declared, asserted, proved, shown, refused, exhausted}
+use Rattle.ath_print.specs.Printers.{Printer, word, in_turn, spaced, item}
+use Rattle.ath_print.specs.Prefix.{conn_text, quant_text, numbered, svar_printed, sort_step, sort_printed, index_text, var_text, with_sort, occurrence, leaves_unsaid, ascribed, term_printed, terms_printed, sent_printed}
+use Rattle.ath_print.specs.Lines.{listed_after, listed, hex_digit, escaped, quoted, method_text, kind_text, argument_printed, refusal_text, shown_text, place_text, text_of_event, line_of}
+use Rattle.ath_session.specs.Laws.{has_line_end, is_theorem, IsLine}
 
 -- no byte is LF
 pub record Plain (text : List ℕ) : Type 0 where
@@ -90,7 +103,7 @@ decimal-plain n = digits-plain 64 n [] (plain [] refl)
 place-plain : (files : List (List ℕ)) (at : Pos) → Plain (place_text files at)
 place-plain files at = plain-append (plain-append (plain-append (plain-append (quoted-plain (slice_index_or files at.file [])) (plain (codes ":") refl)) (decimal-plain at.line)) (plain (codes ":") refl)) (decimal-plain at.col)
 
--- ---- sentences
+-- ---- names and words
 abbrev pub ArePlain : List (List ℕ) → Type 0
 ArePlain names = AllByRecursion Plain names
 
@@ -121,15 +134,23 @@ kind-plain KindMix = plain _ refl
 kind-plain TooDeep = plain _ refl
 kind-plain NotBuilt = plain _ refl
 kind-plain Redeclared = plain _ refl
+kind-plain UnknownSort = plain _ refl
+kind-plain Arity = plain _ refl
+kind-plain LooseParam = plain _ refl
+kind-plain TooWide = plain _ refl
+kind-plain SortTooLarge = plain _ refl
 kind-plain Unbound = plain _ refl
 kind-plain FileTooLong = plain _ refl
 kind-plain TooManyLoads = plain _ refl
+kind-plain SortClash = plain _ refl
 kind-plain ArgCount = plain _ refl
+kind-plain NotBoolean = plain _ refl
 kind-plain TooLarge = plain _ refl
 kind-plain TooNested = plain _ refl
 kind-plain WrongKind = plain _ refl
 kind-plain WrongShape = plain _ refl
 kind-plain NotInBase = plain _ refl
+kind-plain NotApplicable = plain _ refl
 kind-plain NotMethod = plain _ refl
 kind-plain NotSentence = plain _ refl
 
@@ -140,43 +161,148 @@ method-plain n = go (n == 0)
     go true = plain _ refl
     go false = plain _ refl
 
+-- ---- what is printed after sort variables were shown, whichever they are
+abbrev IsPlain : Printer → Type 0
+IsPlain p = (seen : List SVar) → Plain (p seen).text
+
+abbrev AllPlain : List Printer → Type 0
+AllPlain ps = AllByRecursion IsPlain ps
+
+word-plain : {text : List ℕ} → Plain text → IsPlain (word text)
+word-plain e seen = e
+
+turn-plain : (ps : List Printer) → AllPlain ps → IsPlain (in_turn ps)
+turn-plain [] h seen = plain [] refl
+turn-plain (p ∷ ps) h seen = plain-append (h.0 seen) (turn-plain ps h.1 (p seen).seen)
+
+space-plain : IsPlain (word (codes " "))
+space-plain = word-plain (plain (codes " ") refl)
+
+opening-plain : IsPlain (word (codes "("))
+opening-plain = word-plain (plain (codes "(") refl)
+
+closing-plain : IsPlain (word (codes ")"))
+closing-plain = word-plain (plain (codes ")") refl)
+
+spaced-plain : (ps : List Printer) → AllPlain ps → IsPlain (spaced ps)
+spaced-plain [] h = turn-plain [] tt
+spaced-plain (p ∷ ps) h = turn-plain (word (codes " ") ∷ p ∷ spaced ps ∷ []) (space-plain, (h.0, (spaced-plain ps h.1, tt)))
+
+item-plain : (head : List ℕ) (ps : List Printer) → Plain head → AllPlain ps → IsPlain (item head ps)
+item-plain head [] e h = word-plain e
+item-plain head (p ∷ ps) e h = turn-plain (word (codes "(") ∷ word head ∷ spaced (p ∷ ps) ∷ word (codes ")") ∷ []) (opening-plain, (word-plain e, (spaced-plain (p ∷ ps) h, (closing-plain, tt))))
+
+numbered-plain : (seen : List SVar) (v : SVar) (o : Option ℕ) → Plain (numbered seen v o).text
+numbered-plain seen v (Some n) = plain-append (plain (codes "'S") refl) (decimal-plain (n + 1))
+numbered-plain seen v None = plain-append (plain (codes "'S") refl) (decimal-plain (length seen + 1))
+
+svar-plain : (v : SVar) → IsPlain (svar_printed v)
+svar-plain v seen = numbered-plain seen v (position (same_svar v) seen)
+
+index-plain : (n : ℕ) → Plain (index_text n)
+index-plain n = go (n == 0)
+  where
+    go : (b : Bool) → Plain (if b then [] else codes "%" ++ decimal n)
+    go true = plain [] refl
+    go false = plain-append (plain (codes "%") refl) (decimal-plain n)
+
+-- ---- sorts, terms and sentences
 module _ (names : List (List ℕ)) (all : ArePlain names) where
   name-plain : (n : Sym) → Plain (text_of names n)
   name-plain n = indexed-plain names n.0 all
 
-  term-plain : (t : Term) → Plain (term_text names t)
-  term-plain (app f ss ts) = name-plain f
-  term-plain (var v) = plain [] refl
+  sorts-plain : (ss : List Sort) → AllByRecursion (λ s. IsPlain (sort_printed names s)) ss → AllPlain (map (sort_printed names) ss)
+  sorts-plain [] h = tt
+  sorts-plain (s ∷ ss) h = (h.0, sorts-plain ss h.1)
 
-  printed-plain : (p : Sent) → Plain (printed names p)
-  printed-plain (atom t) = term-plain t
-  printed-plain (equal s t) = plain [] refl
-  printed-plain (negated p) = plain-append (plain-append (plain (codes "(not ") refl) (printed-plain p)) (plain (codes ")") refl)
-  printed-plain (joined c p q) =
-      let a = plain-append (plain-append (plain (codes "(") refl) (conn-plain c)) (plain (codes " ") refl) in
-      let b = plain-append (plain-append a (printed-plain p)) (plain (codes " ") refl) in
-      plain-append (plain-append b (printed-plain q)) (plain (codes ")") refl)
-  printed-plain (bound k v p) = plain [] refl
+  sort-plain : (s : Sort) → IsPlain (sort_printed names s)
+  sort-plain = sort_induction (λ s. IsPlain (sort_printed names s))
+      (λ v. subst IsPlain (sym (at_var v)) (svar-plain v))
+      (λ c parts h. subst IsPlain (sym (at_con c parts)) (item-plain (text_of names c) (map (sort_printed names) parts) (name-plain c) (sorts-plain parts h)))
+    where
+      at_var : (v : SVar) → sort_printed names (Var v) ≡ svar_printed v
+      at_var v = ap (sort_printed names) (sym (rolls-Var v)) ∙ fold-roll-Sort Printer (sort_step names) (one.Var v)
 
+      at_con : (c : Sym) (parts : List Sort) → sort_printed names (Con c parts) ≡ item (text_of names c) (map (sort_printed names) parts)
+      at_con c parts = ap (sort_printed names) (sym (rolls-Con c parts)) ∙ fold-roll-Sort Printer (sort_step names) (one.Con c parts)
+
+  var-plain : (v : Variable) → IsPlain (word (var_text names v))
+  var-plain v = word-plain (plain-append (plain-append (plain (codes "?") refl) (name-plain v.name)) (index-plain v.index))
+
+  with-sort-plain : (v : Variable) → IsPlain (with_sort names v)
+  with-sort-plain v = turn-plain (word (var_text names v) ∷ word (codes ":") ∷ sort_printed names v.sort ∷ []) (var-plain v, (word-plain (plain (codes ":") refl), (sort-plain v.sort, tt)))
+
+  occurrence-plain : (binders : List Variable) (v : Variable) → IsPlain (occurrence names binders v)
+  occurrence-plain binders v = go (list_any (same_var v) binders)
+    where
+      go : (b : Bool) → IsPlain (if b then word (var_text names v) else with_sort names v)
+      go true = var-plain v
+      go false = with-sort-plain v
+
+  ascribed-plain : (b : Bool) (s : Sort) (p : Printer) → IsPlain p → IsPlain (ascribed names b s p)
+  ascribed-plain true s p h = turn-plain (word (codes "(") ∷ p ∷ word (codes " : ") ∷ sort_printed names s ∷ word (codes ")") ∷ []) (opening-plain, (h, (word-plain (plain (codes " : ") refl), (sort-plain s, (closing-plain, tt)))))
+  ascribed-plain false s p h = h
+
+module _ (names : List (List ℕ)) (all : ArePlain names) (sig : Signature) where
+  mutual
+    term-plain : (binders : List Variable) (t : Term) → IsPlain (term_printed names sig binders t)
+    term-plain binders (var v) = occurrence-plain names all binders v
+    term-plain binders (app f sorts args) = ascribed-plain names all (leaves_unsaid (symbol_of sig f)) (result_sort (symbol_of sig f) sorts) (item (text_of names f) (terms_printed names sig binders args)) (item-plain (text_of names f) (terms_printed names sig binders args) (name-plain names all f) (terms-plain binders args))
+
+    terms-plain : (binders : List Variable) (ts : Terms) → AllPlain (terms_printed names sig binders ts)
+    terms-plain binders none = tt
+    terms-plain binders (more t ts) = (term-plain binders t, terms-plain binders ts)
+
+  sent-plain : (binders : List Variable) (p : Sent) → IsPlain (sent_printed names sig binders p)
+  sent-plain binders (atom t) = term-plain binders t
+  sent-plain binders (equal s t) = item-plain (codes "=") (term_printed names sig binders s ∷ term_printed names sig binders t ∷ []) (plain (codes "=") refl) (term-plain binders s, (term-plain binders t, tt))
+  sent-plain binders (negated p) = item-plain (conn_text Not) (sent_printed names sig binders p ∷ []) (conn-plain Not) (sent-plain binders p, tt)
+  sent-plain binders (joined c p q) = item-plain (conn_text c) (sent_printed names sig binders p ∷ sent_printed names sig binders q ∷ []) (conn-plain c) (sent-plain binders p, (sent-plain binders q, tt))
+  sent-plain binders (bound k v p) = item-plain (quant_text k) (with_sort names v ∷ sent_printed names sig (binders ++ v ∷ []) p ∷ []) (quant-plain k) (with-sort-plain names all v, (sent-plain (binders ++ v ∷ []) p, tt))
+
+-- ---- events
+module _ (names : List (List ℕ)) (all : ArePlain names) where
   listed-after-plain : (ns : List Sym) → Plain (listed_after names ns)
   listed-after-plain [] = plain [] refl
-  listed-after-plain (n ∷ ns) = plain-append (plain-append (plain (codes ", ") refl) (name-plain n)) (listed-after-plain ns)
+  listed-after-plain (n ∷ ns) = plain-append (plain-append (plain (codes ", ") refl) (name-plain names all n)) (listed-after-plain ns)
 
   listed-plain : (ns : List Sym) → Plain (listed names ns)
   listed-plain [] = plain [] refl
-  listed-plain (n ∷ ns) = plain-append (name-plain n) (listed-after-plain ns)
+  listed-plain (n ∷ ns) = plain-append (name-plain names all n) (listed-after-plain ns)
 
-  argument-plain : (a : Argument) → Plain (argument_text names a)
-  argument-plain (sentence_named p) = printed-plain p
-  argument-plain (name_named n) = name-plain n
-  argument-plain (number_named n) = decimal-plain n
+module _ (names : List (List ℕ)) (sig : Signature) (files : List (List ℕ)) (all : ArePlain names) where
+  argument-plain : (a : Argument) → IsPlain (argument_printed names sig a)
+  argument-plain (sentence_named p) = sent-plain names all sig [] p
+  argument-plain (term_named t) = term-plain names all sig [] t
+  argument-plain (sort_named s) = sort-plain names all s
+  argument-plain (variable_named n) = word-plain (plain-append (plain (codes "'") refl) (name-plain names all n))
+  argument-plain (name_named n) = word-plain (name-plain names all n)
+  argument-plain (number_named n) = word-plain (decimal-plain n)
 
-  arguments-plain : (args : List Argument) → Plain (arguments_text names args)
-  arguments-plain [] = plain [] refl
-  arguments-plain (a ∷ args) = plain-append (plain-append (plain (codes " ") refl) (argument-plain a)) (arguments-plain args)
+  arguments-plain : (args : List Argument) → AllPlain (map (argument_printed names sig) args)
+  arguments-plain [] = tt
+  arguments-plain (a ∷ args) = (argument-plain a, arguments-plain args)
 
-  refusal-plain : (why : Refusal) → Plain (refusal_text names why)
-  refusal-plain why = plain-append (kind-plain why.kind) (arguments-plain why.args)
+  refusal-plain : (why : Refusal) → Plain (refusal_text names sig why)
+  refusal-plain why = plain-append (kind-plain why.kind) (spaced-plain (map (argument_printed names sig) why.args) (arguments-plain why.args) [])
+
+  shown-plain : (v : Value) → Plain (shown_text names sig v)
+  shown-plain (a_term t s) = plain-append (plain (codes "Term: ") refl) (term-plain names all sig [] t [])
+  shown-plain (a_sentence p) = plain-append (plain (codes "Sentence: ") refl) (sent-plain names all sig [] p [])
+  shown-plain (a_symbol f) = plain-append (plain (codes "Symbol: ") refl) (name-plain names all f)
+  shown-plain (a_connective c) = plain-append (plain (codes "Symbol: ") refl) (conn-plain c)
+  shown-plain (a_quantifier q) = plain-append (plain (codes "Symbol: ") refl) (quant-plain q)
+  shown-plain a_back = plain (codes "Symbol: <==") refl
+  shown-plain (a_method n) = plain-append (plain (codes "Method: ") refl) (method-plain n)
+
+  event-plain : (e : Event) → Plain (text_of_event names sig files e)
+  event-plain (domain_declared n) = plain-append (plain (codes "Domain: ") refl) (name-plain names all n)
+  event-plain (declared ns) = plain-append (plain (codes "Symbols: ") refl) (listed-plain names all ns)
+  event-plain (asserted p) = plain-append (plain (codes "Assertion: ") refl) (sent-plain names all sig [] p [])
+  event-plain (proved p) = plain-append (plain (codes "Theorem: ") refl) (sent-plain names all sig [] p [])
+  event-plain (shown v) = shown-plain v
+  event-plain (refused at why) = plain-append (plain-append (plain-append (plain (codes "Error: ") refl) (place-plain files at)) (plain (codes ": ") refl)) (refusal-plain why)
+  event-plain (exhausted at) = plain-append (plain-append (plain (codes "Fuel: ") refl) (place-plain files at)) (plain (codes ": out of fuel") refl)
 
 -- ---- lines
 abbrev second_is_h : List ℕ → Bool
@@ -188,80 +314,32 @@ second_is_h (b ∷ c ∷ bs) = c == 104
 other : (b c : ℕ) (text : List ℕ) → (c == 104) ≡ false → b ∷ c ∷ text ≡ codes "Theorem: " → ⊥
 other b c text f e = let h : (c == 104) ≡ true = ap second_is_h e in absurd (cc)
 
-module _ (names files : List (List ℕ)) (all : ArePlain names) where
-  shown-whole : (v : Value) → IsLine (record { event = shown v; line = line_of names files (shown v) })
-  shown-whole (a_term t) = record {
-    text = codes "Term: " ++ term_text names t;
-    ends = refl;
-    one_end = (plain-append (plain (codes "Term: ") refl) (term-plain names all t)).free;
-    theorem = ((λ e. absurd (other 84 101 _ refl e)), (λ e. absurd (cc)));
-  }
-  shown-whole (a_sentence p) = record {
-    text = codes "Sentence: " ++ printed names p;
-    ends = refl;
-    one_end = (plain-append (plain (codes "Sentence: ") refl) (printed-plain names all p)).free;
-    theorem = ((λ e. absurd (other 83 101 _ refl e)), (λ e. absurd (cc)));
-  }
-  shown-whole (a_symbol f) = record {
-    text = codes "Symbol: " ++ text_of names f;
-    ends = refl;
-    one_end = (plain-append (plain (codes "Symbol: ") refl) (name-plain names all f)).free;
-    theorem = ((λ e. absurd (other 83 121 _ refl e)), (λ e. absurd (cc)));
-  }
-  shown-whole (a_connective c) = record {
-    text = codes "Symbol: " ++ conn_text c;
-    ends = refl;
-    one_end = (plain-append (plain (codes "Symbol: ") refl) (conn-plain c)).free;
-    theorem = ((λ e. absurd (other 83 121 _ refl e)), (λ e. absurd (cc)));
-  }
-  shown-whole (a_quantifier q) = record {
-    text = codes "Symbol: " ++ quant_text q;
-    ends = refl;
-    one_end = (plain-append (plain (codes "Symbol: ") refl) (quant-plain q)).free;
-    theorem = ((λ e. absurd (other 83 121 _ refl e)), (λ e. absurd (cc)));
-  }
-  shown-whole a_back = record {
-    text = codes "Symbol: <==";
-    ends = refl;
-    one_end = refl;
-    theorem = ((λ e. absurd (other 83 121 _ refl e)), (λ e. absurd (cc)));
-  }
-  shown-whole (a_method n) = record {
-    text = codes "Method: " ++ method_text n;
-    ends = refl;
-    one_end = (plain-append (plain (codes "Method: ") refl) (method-plain n)).free;
-    theorem = ((λ e. absurd (other 77 101 _ refl e)), (λ e. absurd (cc)));
-  }
+abbrev Headed : Event → List ℕ → Type 0
+Headed e line = (take 9 line ≡ codes "Theorem: ") ↔ (is_theorem e ≡ true)
 
-  pub line_whole : (e : Event) → IsLine (record { event = e; line = line_of names files e })
-  line_whole (declared ns) = record {
-    text = codes "Symbols: " ++ listed names ns;
-    ends = refl;
-    one_end = (plain-append (plain (codes "Symbols: ") refl) (listed-plain names all ns)).free;
-    theorem = ((λ e. absurd (other 83 121 _ refl e)), (λ e. absurd (cc)));
-  }
-  line_whole (asserted p) = record {
-    text = codes "Assertion: " ++ printed names p;
-    ends = refl;
-    one_end = (plain-append (plain (codes "Assertion: ") refl) (printed-plain names all p)).free;
-    theorem = ((λ e. absurd (other 65 115 _ refl e)), (λ e. absurd (cc)));
-  }
-  line_whole (proved p) = record {
-    text = codes "Theorem: " ++ printed names p;
-    ends = refl;
-    one_end = (plain-append (plain (codes "Theorem: ") refl) (printed-plain names all p)).free;
-    theorem = ((λ e. refl), (λ e. refl));
-  }
-  line_whole (shown v) = shown-whole v
-  line_whole (refused at why) = record {
-    text = codes "Error: " ++ place_text files at ++ codes ": " ++ refusal_text names why;
-    ends = refl;
-    one_end = (plain-append (plain-append (plain-append (plain (codes "Error: ") refl) (place-plain files at)) (plain (codes ": ") refl)) (refusal-plain names all why)).free;
-    theorem = ((λ e. absurd (other 69 114 _ refl e)), (λ e. absurd (cc)));
-  }
-  line_whole (exhausted at) = record {
-    text = codes "Fuel: " ++ place_text files at ++ codes ": out of fuel";
-    ends = refl;
-    one_end = (plain-append (plain-append (plain (codes "Fuel: ") refl) (place-plain files at)) (plain (codes ": out of fuel") refl)).free;
-    theorem = ((λ e. absurd (other 70 117 _ refl e)), (λ e. absurd (cc)));
-  }
+module _ (names : List (List ℕ)) (sig : Signature) (files : List (List ℕ)) where
+  shown-headed : (v : Value) → Headed (shown v) (line_of names sig files (shown v))
+  shown-headed (a_term t s) = ((λ e. absurd (other 84 101 _ refl e)), (λ e. absurd (cc)))
+  shown-headed (a_sentence p) = ((λ e. absurd (other 83 101 _ refl e)), (λ e. absurd (cc)))
+  shown-headed (a_symbol f) = ((λ e. absurd (other 83 121 _ refl e)), (λ e. absurd (cc)))
+  shown-headed (a_connective c) = ((λ e. absurd (other 83 121 _ refl e)), (λ e. absurd (cc)))
+  shown-headed (a_quantifier q) = ((λ e. absurd (other 83 121 _ refl e)), (λ e. absurd (cc)))
+  shown-headed a_back = ((λ e. absurd (other 83 121 _ refl e)), (λ e. absurd (cc)))
+  shown-headed (a_method n) = ((λ e. absurd (other 77 101 _ refl e)), (λ e. absurd (cc)))
+
+  line-headed : (e : Event) → Headed e (line_of names sig files e)
+  line-headed (domain_declared n) = ((λ e. absurd (other 68 111 _ refl e)), (λ e. absurd (cc)))
+  line-headed (declared ns) = ((λ e. absurd (other 83 121 _ refl e)), (λ e. absurd (cc)))
+  line-headed (asserted p) = ((λ e. absurd (other 65 115 _ refl e)), (λ e. absurd (cc)))
+  line-headed (proved p) = ((λ e. refl), (λ e. refl))
+  line-headed (shown v) = shown-headed v
+  line-headed (refused at why) = ((λ e. absurd (other 69 114 _ refl e)), (λ e. absurd (cc)))
+  line-headed (exhausted at) = ((λ e. absurd (other 70 117 _ refl e)), (λ e. absurd (cc)))
+
+pub line_whole : (names : List (List ℕ)) (sig : Signature) (files : List (List ℕ)) → ArePlain names → (e : Event) → IsLine (record { event = e; line = line_of names sig files e; declared = sig })
+line_whole names sig files all e = record {
+  text = text_of_event names sig files e;
+  ends = refl;
+  one_end = (event-plain names sig files all e).free;
+  theorem = line-headed names sig files e;
+}

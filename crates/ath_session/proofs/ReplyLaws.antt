@@ -1,5 +1,5 @@
 -- The replies to a phrase's outcome, to a statement and to a directive.
-use Rattle.std.proofs.Common.{◌≡◌, ℕ, Bool, List, [], ◌∷◌, Option, Some, None, Result, Ok, Err, IfOk, sym, ◌∙◌, ap, subst}
+use Rattle.std.proofs.Common.{◌≡◌, ℕ, Bool, false, List, [], ◌∷◌, Option, Some, None, Result, Ok, Err, IfOk, sym, ◌∙◌, ap, subst}
 use Rattle.std.specs.Prelude.{slice_get}
 use Rattle.ath_sorts.specs.declared.sorts.Sym.{Sym}
 use Rattle.ath_syntax.specs.declared.place.Pos.{Pos}
@@ -7,9 +7,9 @@ use Rattle.ath_syntax.specs.declared.node.PhraseId.{PhraseId}
 use Rattle.ath_syntax.specs.declared.node.Node.{Node}
 use Rattle.ath_syntax.specs.declared.node.SortText.{SortText}
 use Rattle.ath_syntax.specs.declared.directive.What.{What}
-use Rattle.ath_syntax.specs.declared.directive.What.TheVariants.{Declare, Assert, Load, Phrase as Plain}
+use Rattle.ath_syntax.specs.declared.directive.What.TheVariants.{Domain, Declare, Assert, Load, Phrase as Plain}
 use Rattle.ath_syntax.specs.declared.directive.Directive.{Directive}
-use Rattle.ath_syntax.specs.Tree.{Phrase, Statement, declare_is, assert_is, load_is, phrase_is, DirectiveTree}
+use Rattle.ath_syntax.specs.Tree.{Phrase, Statement, domain_is, declare_is, assert_is, load_is, phrase_is, DirectiveTree}
 use Rattle.ath_syntax.specs.Stands.{IsPhrase, IsStatement, IsDirective}
 use Rattle.ath_terms.specs.declared.node.SentId.{SentId}
 use Rattle.ath_terms.specs.Trees.{sent_at}
@@ -24,7 +24,10 @@ use Rattle.ath_eval.specs.declared.world.Outcome as code
 use Rattle.ath_eval.specs.declared.world.Outcome.TheVariants as out
 use Rattle.ath_eval.specs.Evaluation.{outcome_of, place}
 use Rattle.ath_eval.specs.World.{Evaluates, IsOutcome}
-use Rattle.ath_session.specs.State.{context, joining, first_taken}
+use Rattle.ath_declarations.specs.Declarations as after
+use Rattle.ath_declarations.specs.Unlisted.{is_unlisted}
+use Rattle.ath_print.specs.Events as events
+use Rattle.ath_session.specs.State.{context, joining}
 use Rattle.ath_session.specs.Built as built
 use Rattle.ath_session.specs.Directives.{effect, unless_unbuilt, done, declaring, asserting_sentence, asserting, showing, refusing, loading}
 use Rattle.ath_session.specs.declared.session.Next.TheVariants as next
@@ -32,18 +35,18 @@ use Rattle.ath_session.specs.declared.session.Reply.{Reply}
 use Rattle.ath_session.specs.Session.{state_of, IsReply}
 use Rattle.ath_session.proofs.BuiltLaws.{place_here}
 use Rattle.ath_session.proofs.SessionLaws.{reply_as, refused_plainly, value_asserted, theorem_asserted, error_asserted, spent_asserted, value_shown, theorem_shown, error_shown, spent_shown}
-use Rattle.ath_session.proofs.StatementLaws.{declare_here, assert_here, load_here, phrase_here, other_here, statement_here}
+use Rattle.ath_session.proofs.StatementLaws.{domain_here, declare_here, assert_here, load_here, phrase_here, other_here, statement_here}
 
 -- ---- a phrase that was evaluated
-module _ (w v : World) (moved : Evaluates w v) (i : PhraseId) (o : code.Outcome) (says : (x : Phrase) → IsPhrase w.phrases i x → IsOutcome v.store v.fuel o (outcome_of (context (state_of w)) x w.fuel)) where
+module _ (w v : World) (moved : Evaluates w v) (i : PhraseId) (o : code.Outcome) (says : (x : Phrase) → IsPhrase w.phrases i x → IsOutcome v.store v.fuel v.fresh o (outcome_of (context (state_of w)) x w.fuel w.fresh)) where
   abbrev Asserts : World → Reply → Type 0
-  Asserts u r = (x : Phrase) → IsPhrase w.phrases i x → IsReply u r (asserting (state_of w) (place x) (outcome_of (context (state_of w)) x w.fuel))
+  Asserts u r = (x : Phrase) → IsPhrase w.phrases i x → IsReply u r (asserting (state_of w) (place x) (outcome_of (context (state_of w)) x w.fuel w.fresh))
 
   abbrev Shows : World → Reply → Type 0
-  Shows u r = (x : Phrase) → IsPhrase w.phrases i x → IsReply u r (showing (state_of w) (outcome_of (context (state_of w)) x w.fuel))
+  Shows u r = (x : Phrase) → IsPhrase w.phrases i x → IsReply u r (showing (state_of w) (outcome_of (context (state_of w)) x w.fuel w.fresh))
 
-  outcome_is : (k : code.Outcome) → o ≡ k → (x : Phrase) → IsPhrase w.phrases i x → IsOutcome v.store v.fuel k (outcome_of (context (state_of w)) x w.fuel)
-  outcome_is k e x h = subst (λ (y : code.Outcome). IsOutcome v.store v.fuel y (outcome_of (context (state_of w)) x w.fuel)) e (says x h)
+  outcome_is : (k : code.Outcome) → o ≡ k → (x : Phrase) → IsPhrase w.phrases i x → IsOutcome v.store v.fuel v.fresh k (outcome_of (context (state_of w)) x w.fuel w.fresh)
+  outcome_is k e x h = subst (λ (y : code.Outcome). IsOutcome v.store v.fuel v.fresh y (outcome_of (context (state_of w)) x w.fuel w.fresh)) e (says x h)
 
   module _ {E : Type 0} where
     pub value_assertion : (u : World) (a : Result Reply E) (n : Node) (x : coded.Value) → slice_get w.phrases.phrases i.0 ≡ Some n → o ≡ out.Value x → IfOk a (λ r. IsReply u r (asserting_sentence (state_of v) n.pos (sentence_of (value_at v.store x)))) → IfOk a (Asserts u)
@@ -86,11 +89,15 @@ module _ (w u : World) (what : What) (at : Pos) where
   done_as r x y e h = reply_as u r _ _ (ap (done (state_of w) at) (sym e)) h
 
   module _ {E : Type 0} where
-    pub declare_tells : (a : Result Reply E) (ms ns : List Sym) (ps : Option (List Sym)) (os : List SortText) (s : SortText) → what ≡ Declare ns ps os s → ms ≡ ns → IfOk a (λ r. IsReply u r (declaring (state_of w) at ms (first_taken w.sig ms))) → IfOk a Tells
-    declare_tells (Ok r) ms ns ps os s e m h = λ x k. done_as r x (declare_is ns ps os s) (declare_here w.phrases what x k ns ps os s e) (subst (λ (ms : List Sym). IsReply u r (declaring (state_of w) at ms (first_taken w.sig ms))) m h)
-    declare_tells (Err k) ms ns ps os s e m h = tt
+    pub domain_tells : (a : Result Reply E) (n : Sym) (ms vs : List Sym) → what ≡ Domain n vs → ms ≡ vs → IfOk a (λ r. IsReply u r (declaring (state_of w) at (events.domain_declared n) false (after.domain_declared w.sig n ms))) → IfOk a Tells
+    domain_tells (Ok r) n ms vs e m h = λ x k. done_as r x (domain_is n vs) (domain_here w.phrases what x k n vs e) (subst (λ (ms : List Sym). IsReply u r (declaring (state_of w) at (events.domain_declared n) false (after.domain_declared w.sig n ms))) m h)
+    domain_tells (Err k) n ms vs e m h = tt
 
-    pub assert_tells : (a : Result Reply E) (n : Option Sym) (closed : Bool) (i : PhraseId) → what ≡ Assert n closed i → IfOk a (λ r. (x : Phrase) → IsPhrase w.phrases i x → IsReply u r (asserting (state_of w) (place x) (outcome_of (context (state_of w)) x w.fuel))) → IfOk a Tells
+    pub declare_tells : (a : Result Reply E) (ms ns : List Sym) (ps : Option (List Sym)) (ts os : List SortText) (s : SortText) → what ≡ Declare ns ps os s → ms ≡ ns → ts ≡ os → IfOk a (λ r. IsReply u r (declaring (state_of w) at (events.declared ms) (is_unlisted w.sig ps ts s) (after.declared w.sig ms ps ts s))) → IfOk a Tells
+    declare_tells (Ok r) ms ns ps ts os s e m t h = λ x k. done_as r x (declare_is ns ps os s) (declare_here w.phrases what x k ns ps os s e) (reply_as u r _ _ (λ i. declaring (state_of w) at (events.declared (m i)) (is_unlisted w.sig ps (t i) s) (after.declared w.sig (m i) ps (t i) s)) h)
+    declare_tells (Err k) ms ns ps ts os s e m t h = tt
+
+    pub assert_tells : (a : Result Reply E) (n : Option Sym) (closed : Bool) (i : PhraseId) → what ≡ Assert n closed i → IfOk a (λ r. (x : Phrase) → IsPhrase w.phrases i x → IsReply u r (asserting (state_of w) (place x) (outcome_of (context (state_of w)) x w.fuel w.fresh))) → IfOk a Tells
     assert_tells (Ok r) n closed i e h = λ x k. let p = assert_here w.phrases what x k n closed i e in done_as r x (assert_is n closed p.0) p.2 (h p.0 p.1)
     assert_tells (Err k) n closed i e h = tt
 
@@ -98,14 +105,14 @@ module _ (w u : World) (what : What) (at : Pos) where
     load_tells (Ok r) b c e m h = λ x k. done_as r x (load_is b) (load_here w.phrases what x k b e) (subst (λ (c : List ℕ). IsReply u r (loading (state_of w) at c)) m h)
     load_tells (Err k) b c e m h = tt
 
-    pub phrase_tells : (a : Result Reply E) (i : PhraseId) → what ≡ Plain i → IfOk a (λ r. (x : Phrase) → IsPhrase w.phrases i x → IsReply u r (showing (state_of w) (outcome_of (context (state_of w)) x w.fuel))) → IfOk a Tells
+    pub phrase_tells : (a : Result Reply E) (i : PhraseId) → what ≡ Plain i → IfOk a (λ r. (x : Phrase) → IsPhrase w.phrases i x → IsReply u r (showing (state_of w) (outcome_of (context (state_of w)) x w.fuel w.fresh))) → IfOk a Tells
     phrase_tells (Ok r) i e h = λ x k. let p = phrase_here w.phrases what x k i e in done_as r x (phrase_is p.0) p.2 (h p.0 p.1)
     phrase_tells (Err k) i e h = tt
 
 module _ (w : World) (what : What) (at : Pos) where
-  pub other_tells : {E : Type 0} (a : Result Reply E) (f : Fault) → ((ns : List Sym) (ps : Option (List Sym)) (os : List SortText) (o : SortText) → what ≡ Declare ns ps os o → ⊥) → ((n : Option Sym) (closed : Bool) (i : PhraseId) → what ≡ Assert n closed i → ⊥) → ((b : List ℕ) → what ≡ Load b → ⊥) → ((i : PhraseId) → what ≡ Plain i → ⊥) → f.kind ≡ NotBuilt → f.args ≡ [] → IfOk a (λ r. IsReply w r (refusing (state_of w) at (refusal_of w.store f))) → IfOk a (Tells w w what at)
-  other_tells (Ok r) f nd na nl np k m h = λ x s. refused_plainly w r at f NotBuilt (done (state_of w) at x) k m ((other_here w.phrases what x s nd na nl np).refused (state_of w) at) h
-  other_tells (Err e) f nd na nl np k m h = tt
+  pub other_tells : {E : Type 0} (a : Result Reply E) (f : Fault) → ((n : Sym) (vs : List Sym) → what ≡ Domain n vs → ⊥) → ((ns : List Sym) (ps : Option (List Sym)) (os : List SortText) (o : SortText) → what ≡ Declare ns ps os o → ⊥) → ((n : Option Sym) (closed : Bool) (i : PhraseId) → what ≡ Assert n closed i → ⊥) → ((b : List ℕ) → what ≡ Load b → ⊥) → ((i : PhraseId) → what ≡ Plain i → ⊥) → f.kind ≡ NotBuilt → f.args ≡ [] → IfOk a (λ r. IsReply w r (refusing (state_of w) at (refusal_of w.store f))) → IfOk a (Tells w w what at)
+  other_tells (Ok r) f nm nd na nl np k m h = λ x s. refused_plainly w r at f NotBuilt (done (state_of w) at x) k m ((other_here w.phrases what x s nm nd na nl np).refused (state_of w) at) h
+  other_tells (Err e) f nm nd na nl np k m h = tt
 
 -- ---- directives
 module _ (w : World) (d : Directive) where

@@ -5,10 +5,10 @@ use Rattle.ath_syntax.specs.declared.place.Pos.{Pos}
 use Rattle.ath_syntax.specs.declared.node.PhraseId.{PhraseId}
 use Rattle.ath_syntax.specs.declared.node.SortText.{SortText}
 use Rattle.ath_syntax.specs.declared.directive.What.{What}
-use Rattle.ath_syntax.specs.declared.directive.What.TheVariants.{Declare, Assert, Load, Phrase as Plain}
+use Rattle.ath_syntax.specs.declared.directive.What.TheVariants.{Domain, Declare, Assert, Load, Phrase as Plain}
 use Rattle.ath_syntax.specs.declared.directive.Directive.{Directive}
 use Rattle.ath_syntax.specs.Nodes.{Nodes}
-use Rattle.ath_syntax.specs.Tree.{Phrase, Statement, declare_is, assert_is, load_is, phrase_is, DirectiveTree, directive_at}
+use Rattle.ath_syntax.specs.Tree.{Phrase, Statement, domain_is, declare_is, assert_is, load_is, phrase_is, DirectiveTree, directive_at}
 use Rattle.ath_syntax.specs.Stands.{IsPhrase, IsStatement, says_domain, says_datatype, says_declare, says_define, says_define_fun, says_assert, says_load, says_phrase, IsDirective, is_directive}
 use Rattle.ath_print.specs.declared.fault.FaultKind.TheVariants.{NotBuilt}
 use Rattle.ath_eval.specs.Outcomes.{refusal}
@@ -22,6 +22,12 @@ module _ (s : Nodes) (w : What) (x : Statement) (h : IsStatement s w x) where
     where
       go : (x : Statement) → IsStatement s (Declare ns ps os o) x → x ≡ declare_is ns ps os o
       go x says_declare = refl
+
+  pub domain_here : (n : Sym) (vs : List Sym) → w ≡ Domain n vs → x ≡ domain_is n vs
+  domain_here n vs e = go x (subst (λ (u : What). IsStatement s u x) e h)
+    where
+      go : (x : Statement) → IsStatement s (Domain n vs) x → x ≡ domain_is n vs
+      go x says_domain = refl
 
   pub load_here : (b : List ℕ) → w ≡ Load b → x ≡ load_is b
   load_here b e = go x (subst (λ (u : What). IsStatement s u x) e h)
@@ -46,15 +52,15 @@ pub record IsOther (x : Statement) : Type 0 where
   pub told : (names : List (List ℕ)) (at : Pos) → Some at ≡ built.unbuilt_in names at x
   pub refused : (st : State) (at : Pos) → refusing st at (refusal NotBuilt []) ≡ done st at x
 
-pub other_here : (s : Nodes) (w : What) (x : Statement) → IsStatement s w x → ((ns : List Sym) (ps : Option (List Sym)) (os : List SortText) (o : SortText) → w ≡ Declare ns ps os o → ⊥) → ((n : Option Sym) (closed : Bool) (i : PhraseId) → w ≡ Assert n closed i → ⊥) → ((b : List ℕ) → w ≡ Load b → ⊥) → ((i : PhraseId) → w ≡ Plain i → ⊥) → IsOther x
-other_here s w x says_domain nd na nl np = record { told = λ names at. refl; refused = λ st at. refl }
-other_here s w x says_datatype nd na nl np = record { told = λ names at. refl; refused = λ st at. refl }
-other_here s w x (says_declare {xs = ns} {vs = ps} {os = os} {o = o}) nd na nl np = absurd (nd ns ps os o refl)
-other_here s w x (says_define h) nd na nl np = record { told = λ names at. refl; refused = λ st at. refl }
-other_here s w x (says_define_fun h) nd na nl np = record { told = λ names at. refl; refused = λ st at. refl }
-other_here s w x (says_assert {x = n} {closed = c} {i = i} h) nd na nl np = absurd (na n c i refl)
-other_here s w x (says_load {b = b}) nd na nl np = absurd (nl b refl)
-other_here s w x (says_phrase {i = i} h) nd na nl np = absurd (np i refl)
+pub other_here : (s : Nodes) (w : What) (x : Statement) → IsStatement s w x → ((n : Sym) (vs : List Sym) → w ≡ Domain n vs → ⊥) → ((ns : List Sym) (ps : Option (List Sym)) (os : List SortText) (o : SortText) → w ≡ Declare ns ps os o → ⊥) → ((n : Option Sym) (closed : Bool) (i : PhraseId) → w ≡ Assert n closed i → ⊥) → ((b : List ℕ) → w ≡ Load b → ⊥) → ((i : PhraseId) → w ≡ Plain i → ⊥) → IsOther x
+other_here s w x (says_domain {x = n} {vs = vs}) nm nd na nl np = absurd (nm n vs refl)
+other_here s w x says_datatype nm nd na nl np = record { told = λ names at. refl; refused = λ st at. refl }
+other_here s w x (says_declare {xs = ns} {vs = ps} {os = os} {o = o}) nm nd na nl np = absurd (nd ns ps os o refl)
+other_here s w x (says_define h) nm nd na nl np = record { told = λ names at. refl; refused = λ st at. refl }
+other_here s w x (says_define_fun h) nm nd na nl np = record { told = λ names at. refl; refused = λ st at. refl }
+other_here s w x (says_assert {x = n} {closed = c} {i = i} h) nm nd na nl np = absurd (na n c i refl)
+other_here s w x (says_load {b = b}) nm nd na nl np = absurd (nl b refl)
+other_here s w x (says_phrase {i = i} h) nm nd na nl np = absurd (np i refl)
 
 -- an assertion that is neither named nor closed is told as its phrase
 pub assert_bare : (names : List (List ℕ)) (at : Pos) (n : Option Sym) (closed : Bool) (t : Phrase) → (is_some n || closed) ≡ false → built.unbuilt names t ≡ built.unbuilt_in names at (assert_is n closed t)

@@ -19,6 +19,7 @@ use Rattle.ath_session.specs.Steps.{configuration_of, Ended, Did, AreGoing, IsNe
 use Rattle.ath_session.proofs.DeskLaws.{no_items, items_more, part_more}
 use Rattle.ath_session.proofs.Existence.{some_move, run_ends}
 use Rattle.ath_session.proofs.RunLaws.{log_after, one-report-of}
+use Rattle.ath_eval.proofs.Sound.{conclusions-follow, values-sorted}
 use Rattle.ath_session.proofs.Sound.{justified_log}
 
 module _ (texts : List (List ℕ × List ℕ)) (run : Asked) (o : Outside) where
@@ -47,7 +48,7 @@ module _ (texts : List (List ℕ × List ℕ)) (run : Asked) (o : Outside) where
       record {
         report = record { log = a.done ++ items; status = status_of h (a.done ++ items) };
         written = (h, log, refl);
-        follows = justified_log texts run (a.done ++ items) h log;
+        follows = justified_log conclusions-follow values-sorted texts run (a.done ++ items) h log;
         answer = answer;
         done = done;
       }
@@ -67,7 +68,7 @@ module _ (texts : List (List ℕ × List ℕ)) (run : Asked) (o : Outside) where
       record {
         report = record { log = l.log; status = status_of l.halt l.log };
         written = (l.halt, l.is, refl);
-        follows = justified_log texts run l.log l.halt l.is;
+        follows = justified_log conclusions-follow values-sorted texts run l.log l.halt l.is;
         answer = answer (status_of l.halt l.log);
         done = performed after.move a.done after.more l.log e now now' a.is after.all (did after.move after.moves);
       }

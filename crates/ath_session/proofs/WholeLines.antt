@@ -1,10 +1,12 @@
 -- Each line of a run is whole: no name of a configuration has an LF.
-use Rattle.std.proofs.Common.{◌≡◌, ℕ, Bool, true, false, nat_lt, List, [], ◌∷◌, ◌++◌, length, Option, Some, None, refl, sym, subst, if◌then◌else◌}
+use Rattle.std.proofs.Common.{◌≡◌, ℕ, Bool, true, false, nat_lt, List, [], ◌∷◌, ◌++◌, length, Option, Some, None, Result, Ok, Err, refl, sym, subst, if◌then◌else◌}
 use Rattle.std.specs.List.{AllByRecursion}
 use Rattle.std.specs.Str.{is_utf8}
 use Rattle.ath_io.specs.Shelf.{front_of}
 use Rattle.ath_words.specs.Words.{Asked, run_of}
-use Rattle.ath_sorts.specs.declared.sorts.Sym.{Sym}
+use Rattle.ath_sorts.specs.declared.signature.SigError.{SigError}
+use Rattle.ath_sorts.specs.Signature.{Signature}
+use Rattle.ath_declarations.specs.Declarations as after
 use Rattle.ath_syntax.specs.declared.place.Pos.{Pos}
 use Rattle.ath_syntax.specs.Tree.{Statement, domain_is, datatype_is, declare_is, define_is, define_fun_is, assert_is, load_is, phrase_is, DirectiveTree, directive_at}
 use Rattle.ath_terms.specs.Tree.{Sent}
@@ -16,7 +18,7 @@ use Rattle.ath_reader.specs.Ahead.{names_past}
 use Rattle.ath_reader.specs.Next as reading
 use Rattle.ath_eval.specs.Outcomes.{refusal, Outcome, gives, concludes, fails, exhausts}
 use Rattle.ath_eval.specs.Evaluation.{outcome_of, place}
-use Rattle.ath_session.specs.State.{State, context, with_fuel, with_names, first_taken}
+use Rattle.ath_session.specs.State.{State, context, with_left, with_names}
 use Rattle.ath_session.specs.Built.{unbuilt_in}
 use Rattle.ath_session.specs.Directives.{Next, goes_on, loads, ends, Effect, declaring, asserting, asserting_sentence, showing, refusing, loading, done, unless_unbuilt, effect}
 use Rattle.ath_session.specs.Run.{Item, asks, Configuration, Halt, Move, goes, halts, most_bytes, most_asked, most_loads, reading_of, opened, fetched, asking, beginning_of, next_file, tell_all, following, place_of, turned, Turns, Runs, at_start, one_more, said}
@@ -39,25 +41,25 @@ whole_append (i ∷ items) more h k = (h.0, whole_append items more h.1 k)
 abbrev HasNames : List (List ℕ) → Effect → Type 0
 HasNames names e = e.state.names ≡ names
 
-declaring_names : (st : State) (at : Pos) (ns : List Sym) (taken : Option Sym) → HasNames st.names (declaring st at ns taken)
-declaring_names st at ns (Some n) = refl
-declaring_names st at ns None = refl
+declaring_names : (st : State) (at : Pos) (x : events.Event) (unlisted : Bool) (o : Result Signature SigError) → HasNames st.names (declaring st at x unlisted o)
+declaring_names st at x unlisted (Ok sig) = refl
+declaring_names st at x unlisted (Err e) = refl
 
 sentence_names : (st : State) (at : Pos) (p : Option Sent) → HasNames st.names (asserting_sentence st at p)
 sentence_names st at (Some p) = refl
 sentence_names st at None = refl
 
 asserting_names : (st : State) (at : Pos) (o : Outcome) → HasNames st.names (asserting st at o)
-asserting_names st at (gives v left) = sentence_names (with_fuel st left) at (sentence_of v)
-asserting_names st at (concludes p left) = refl
-asserting_names st at (fails inner why left) = refl
-asserting_names st at (exhausts inner) = refl
+asserting_names st at (gives v left made) = sentence_names (with_left st left made) at (sentence_of v)
+asserting_names st at (concludes p left made) = refl
+asserting_names st at (fails inner why left made) = refl
+asserting_names st at (exhausts inner made) = refl
 
 showing_names : (st : State) (o : Outcome) → HasNames st.names (showing st o)
-showing_names st (gives v left) = refl
-showing_names st (concludes p left) = refl
-showing_names st (fails at why left) = refl
-showing_names st (exhausts at) = refl
+showing_names st (gives v left made) = refl
+showing_names st (concludes p left made) = refl
+showing_names st (fails at why left made) = refl
+showing_names st (exhausts at made) = refl
 
 loading_names : (st : State) (at : Pos) (name : List ℕ) → HasNames st.names (loading st at name)
 loading_names st at name = go (is_utf8 name)
@@ -67,11 +69,11 @@ loading_names st at name = go (is_utf8 name)
     go false = refl
 
 done_names : (st : State) (at : Pos) (s : Statement) → HasNames st.names (done st at s)
-done_names st at (declare_is ns params args result) = declaring_names st at ns (first_taken st.signature ns)
-done_names st at (assert_is n closed x) = asserting_names st (place x) (outcome_of (context st) x st.fuel)
+done_names st at (declare_is ns params args result) = declaring_names st at (events.declared ns) _ (after.declared st.signature ns params args result)
+done_names st at (assert_is n closed x) = asserting_names st (place x) (outcome_of (context st) x st.fuel st.fresh)
 done_names st at (load_is name) = loading_names st at name
-done_names st at (phrase_is x) = showing_names st (outcome_of (context st) x st.fuel)
-done_names st at (domain_is n vs) = refl
+done_names st at (phrase_is x) = showing_names st (outcome_of (context st) x st.fuel st.fresh)
+done_names st at (domain_is n vs) = declaring_names st at (events.domain_declared n) false (after.domain_declared st.signature n vs)
 done_names st at (datatype_is n vs cs) = refl
 done_names st at (define_is n x) = refl
 done_names st at (define_fun_is f xs x) = refl
@@ -89,7 +91,7 @@ GoesWhole (goes items c) = AreWhole items × ArePlain c.state.names
 GoesWhole (halts items h) = AreWhole items
 
 said_whole : (c : Configuration) → ArePlain c.state.names → (e : events.Event) → IsLineItem (said c e)
-said_whole c h e = line_whole c.state.names c.files h e
+said_whole c h e = line_whole c.state.names c.state.signature c.files h e
 
 told_whole : (c : Configuration) → ArePlain c.state.names → (es : List events.Event) → AreWhole (tell_all c es)
 told_whole c h [] = tt

@@ -1,13 +1,9 @@
--- What isn't built yet, and where. A phrase is built where it is a name, an application of `if` to built phrases, or a call
--- of `claim` or `mp` with built expressions.
-use Rattle.std.specs.Prelude.{ℕ, Bool, true, false, ◌&&◌, ◌||◌, ◌==◌, not, List, [], ◌∷◌, Option, Some, None, codes, if◌then◌else◌}
+-- What isn't built yet, and where. A phrase is built where it is a name, a variable, an ascription of a built phrase, an
+-- application of a name other than a quantifier's to built phrases, or a call of `claim` or `mp` with built expressions.
+use Rattle.std.specs.Prelude.{ℕ, Bool, true, false, ◌&&◌, ◌||◌, not, List, Option, Some, None, codes, if◌then◌else◌}
 use Rattle.std.specs.Str.{bytes_eq}
-use Rattle.ath_sorts.specs.declared.sorts.Sym.{Sym}
 use Rattle.ath_syntax.specs.declared.place.Pos.{Pos}
-use Rattle.ath_syntax.specs.declared.node.SortText.{SortText}
-use Rattle.ath_syntax.specs.declared.node.SortText.TheOpen as one
-use Rattle.ath_syntax.specs.declared.node.SortText.TheFolds.{fold-SortText}
-use Rattle.ath_syntax.specs.Tree.{Phrase, name_at, apply_at, call_at, Phrases, no_phrases, more_phrases, is_deduction, Statement, domain_is, datatype_is, declare_is, define_is, define_fun_is, assert_is, load_is, phrase_is}
+use Rattle.ath_syntax.specs.Tree.{Phrase, name_at, variable_at, ascribe_at, apply_at, call_at, Phrases, no_phrases, more_phrases, is_deduction, Statement, domain_is, datatype_is, declare_is, define_is, define_fun_is, assert_is, load_is, phrase_is}
 use Rattle.ath_env.specs.LookUp.{text_of}
 use Rattle.ath_eval.specs.Evaluation.{place}
 
@@ -15,6 +11,11 @@ use Rattle.ath_eval.specs.Evaluation.{place}
 abbrev pub is_name : List (List ℕ) → List ℕ → Phrase → Bool
 is_name names text (name_at p n) = bytes_eq (text_of names n) text
 is_name names text x = false
+
+-- whether a phrase is a name that an application may have as its head
+abbrev pub is_head : List (List ℕ) → Phrase → Bool
+is_head names (name_at p n) = not (bytes_eq (text_of names n) (codes "forall") || bytes_eq (text_of names n) (codes "exists"))
+is_head names x = false
 
 abbrev pub is_method_name : List (List ℕ) → Phrase → Bool
 is_method_name names x = is_name names (codes "mp") x || is_name names (codes "claim") x
@@ -32,7 +33,9 @@ or_else (Some p) q = Some p
 abbrev mutual
   pub unbuilt : List (List ℕ) → Phrase → Option Pos
   unbuilt names (name_at p n) = None
-  unbuilt names (apply_at p f xs) = if is_name names (codes "if") f then unbuilt_among names xs else Some p
+  unbuilt names (variable_at p x k s) = None
+  unbuilt names (ascribe_at p x s) = unbuilt names x
+  unbuilt names (apply_at p f xs) = if is_head names f then unbuilt_among names xs else Some p
   unbuilt names (call_at p f xs) = if is_method_name names f && are_expressions xs then unbuilt_among names xs else Some p
   unbuilt names x = Some (place x)
 
@@ -40,35 +43,15 @@ abbrev mutual
   unbuilt_among names no_phrases = None
   unbuilt_among names (more_phrases x xs) = or_else (unbuilt names x) (unbuilt_among names xs)
 
-abbrev pub boolean_step : one.SortText-F Bool → Bool
-boolean_step (one.Name n) = n.0 == 0
-boolean_step (one.Con n []) = n.0 == 0
-boolean_step (one.Con n (b ∷ bs)) = false
-boolean_step (one.Var n) = false
-
--- the sort Boolean, as it is written
-abbrev pub is_boolean : SortText → Bool
-is_boolean = fold-SortText Bool boolean_step
-
-abbrev pub no_parameters : Option (List Sym) → Bool
-no_parameters None = true
-no_parameters (Some []) = true
-no_parameters (Some (n ∷ ns)) = false
-
--- constants of sort Boolean, in every spelling
-abbrev pub is_boolean_constant : Option (List Sym) → List SortText → SortText → Bool
-is_boolean_constant params [] result = no_parameters params && is_boolean result
-is_boolean_constant params (s ∷ ss) result = false
-
 -- a directive of a kind that isn't built is told at its own place
 abbrev pub unbuilt_in : List (List ℕ) → Pos → Statement → Option Pos
-unbuilt_in names at (declare_is ns params args result) = if is_boolean_constant params args result then None else Some at
+unbuilt_in names at (domain_is n vs) = None
+unbuilt_in names at (declare_is ns params args result) = None
 unbuilt_in names at (assert_is None false x) = unbuilt names x
 unbuilt_in names at (assert_is None true x) = Some at
 unbuilt_in names at (assert_is (Some n) closed x) = Some at
 unbuilt_in names at (load_is name) = None
 unbuilt_in names at (phrase_is x) = unbuilt names x
-unbuilt_in names at (domain_is n vs) = Some at
 unbuilt_in names at (datatype_is n vs cs) = Some at
 unbuilt_in names at (define_is n x) = Some at
 unbuilt_in names at (define_fun_is f xs x) = Some at

@@ -1,17 +1,23 @@
 -- The effect of a directive: the state after it, and its events. One that is refused has one event, and keeps all of the
--- state but the fuel.
-use Rattle.std.specs.Prelude.{ℕ, List, [], ◌∷◌, Option, Some, None, if◌then◌else◌}
+-- state but the fuel and the counters.
+use Rattle.std.specs.Prelude.{ℕ, Bool, true, false, List, [], ◌∷◌, Option, Some, None, Result, Ok, Err, if◌then◌else◌}
 use Rattle.std.specs.Str.{is_utf8}
 use Rattle.ath_sorts.specs.declared.sorts.Sym.{Sym}
+use Rattle.ath_sorts.specs.declared.signature.SigError.{SigError}
+use Rattle.ath_sorts.specs.declared.signature.SigError.TheVariants as code
+use Rattle.ath_sorts.specs.Signature.{Signature}
+use Rattle.ath_declarations.specs.Declarations as after
+use Rattle.ath_declarations.specs.Unlisted.{is_unlisted}
 use Rattle.ath_syntax.specs.declared.place.Pos.{Pos}
 use Rattle.ath_syntax.specs.Tree.{Statement, domain_is, datatype_is, declare_is, define_is, define_fun_is, assert_is, load_is, phrase_is, DirectiveTree, directive_at}
+use Rattle.ath_terms.specs.declared.fresh.Fresh.{Fresh}
 use Rattle.ath_terms.specs.Tree.{Sent}
 use Rattle.ath_env.specs.Values.{sentence_of}
-use Rattle.ath_print.specs.declared.fault.FaultKind.TheVariants.{BadUtf8, NotBuilt, NotSentence, Redeclared}
-use Rattle.ath_print.specs.Events.{name_named, Refusal, Event, declared, asserted, proved, shown, refused, exhausted}
+use Rattle.ath_print.specs.declared.fault.FaultKind.TheVariants.{BadUtf8, NotBuilt, NotSentence, Redeclared, TooWide, UnknownSort, Arity, SortTooLarge, LooseParam}
+use Rattle.ath_print.specs.Events.{Argument, name_named, variable_named, Refusal, Event, domain_declared, declared, asserted, proved, shown, refused, exhausted}
 use Rattle.ath_eval.specs.Outcomes.{Outcome, gives, concludes, fails, exhausts, refusal}
 use Rattle.ath_eval.specs.Evaluation.{outcome_of, place}
-use Rattle.ath_session.specs.State.{State, context, with_fuel, joining, with_constants, first_taken}
+use Rattle.ath_session.specs.State.{State, context, with_left, with_signature, joining}
 use Rattle.ath_session.specs.Built.{unbuilt_in}
 
 -- how the run goes on: with the next directive; with the text of a file in the directive's place; or not at all
@@ -32,14 +38,29 @@ telling st e = record { state = st; events = e ∷ []; next = goes_on }
 abbrev pub refusing : State → Pos → Refusal → Effect
 refusing st at why = telling st (refused at why)
 
--- several names are declared together or not at all
-abbrev pub declaring : State → Pos → List Sym → Option Sym → Effect
-declaring st at ns (Some n) = refusing st at (refusal Redeclared (name_named n ∷ []))
-declaring st at ns None = telling (record st { signature = with_constants st.signature ns }) (declared ns)
+-- an unknown sort is told by its name, or as the sort variable that isn't listed
+abbrev pub unknown_sort : Bool → Sym → Argument
+unknown_sort true n = variable_named n
+unknown_sort false n = name_named n
+
+-- why a declaration is refused; `unlisted` says whether the first bad place is a sort variable
+abbrev pub declaration_refusal : Bool → SigError → Refusal
+declaration_refusal unlisted (code.Redeclared n) = refusal Redeclared (name_named n ∷ [])
+declaration_refusal unlisted (code.TooWide n) = refusal TooWide (name_named n ∷ [])
+declaration_refusal unlisted (code.UnknownSort n) = refusal UnknownSort (unknown_sort unlisted n ∷ [])
+declaration_refusal unlisted (code.Arity n) = refusal Arity (name_named n ∷ [])
+declaration_refusal unlisted code.SortTooLarge = refusal SortTooLarge []
+declaration_refusal unlisted (code.LooseParam n) = refusal LooseParam (variable_named n ∷ [])
+declaration_refusal unlisted code.Memory = refusal NotBuilt []
+
+-- a domain or symbols are declared, or they are refused
+abbrev pub declaring : State → Pos → Event → Bool → Result Signature SigError → Effect
+declaring st at told unlisted (Ok sig) = telling (with_signature st sig) told
+declaring st at told unlisted (Err e) = refusing st at (declaration_refusal unlisted e)
 
 -- no fuel is left, and the run ends
-abbrev pub ending : State → Pos → Effect
-ending st at = record { state = with_fuel st 0; events = exhausted at ∷ []; next = ends }
+abbrev pub ending : State → Pos → Fresh → Effect
+ending st at made = record { state = with_left st 0 made; events = exhausted at ∷ []; next = ends }
 
 -- a sentence joins the base as asserted
 abbrev pub asserting_sentence : State → Pos → Option Sent → Effect
@@ -47,17 +68,17 @@ asserting_sentence st at (Some p) = telling (joining st p) (asserted p)
 asserting_sentence st at None = refusing st at (refusal NotSentence [])
 
 abbrev pub asserting : State → Pos → Outcome → Effect
-asserting st at (gives v left) = asserting_sentence (with_fuel st left) at (sentence_of v)
-asserting st at (concludes p left) = asserting_sentence (with_fuel st left) at (Some p)
-asserting st at (fails inner why left) = refusing (with_fuel st left) inner why
-asserting st at (exhausts inner) = ending st inner
+asserting st at (gives v left made) = asserting_sentence (with_left st left made) at (sentence_of v)
+asserting st at (concludes p left made) = asserting_sentence (with_left st left made) at (Some p)
+asserting st at (fails inner why left made) = refusing (with_left st left made) inner why
+asserting st at (exhausts inner made) = ending st inner made
 
 -- a conclusion joins the base, and a value is shown
 abbrev pub showing : State → Outcome → Effect
-showing st (gives v left) = telling (with_fuel st left) (shown v)
-showing st (concludes p left) = telling (joining (with_fuel st left) p) (proved p)
-showing st (fails at why left) = refusing (with_fuel st left) at why
-showing st (exhausts at) = ending st at
+showing st (gives v left made) = telling (with_left st left made) (shown v)
+showing st (concludes p left made) = telling (joining (with_left st left made) p) (proved p)
+showing st (fails at why left made) = refusing (with_left st left made) at why
+showing st (exhausts at made) = ending st at made
 
 -- no text spells a name that isn't UTF-8
 abbrev pub loading : State → Pos → List ℕ → Effect
@@ -65,11 +86,11 @@ loading st at name = if is_utf8 name then record { state = st; events = []; next
 
 -- a directive that is built
 abbrev pub done : State → Pos → Statement → Effect
-done st at (declare_is ns params args result) = declaring st at ns (first_taken st.signature ns)
-done st at (assert_is n closed x) = asserting st (place x) (outcome_of (context st) x st.fuel)
+done st at (domain_is n vs) = declaring st at (domain_declared n) false (after.domain_declared st.signature n vs)
+done st at (declare_is ns params args result) = declaring st at (declared ns) (is_unlisted st.signature params args result) (after.declared st.signature ns params args result)
+done st at (assert_is n closed x) = asserting st (place x) (outcome_of (context st) x st.fuel st.fresh)
 done st at (load_is name) = loading st at name
-done st at (phrase_is x) = showing st (outcome_of (context st) x st.fuel)
-done st at (domain_is n vs) = refusing st at (refusal NotBuilt [])
+done st at (phrase_is x) = showing st (outcome_of (context st) x st.fuel st.fresh)
 done st at (datatype_is n vs cs) = refusing st at (refusal NotBuilt [])
 done st at (define_is n x) = refusing st at (refusal NotBuilt [])
 done st at (define_fun_is f xs x) = refusing st at (refusal NotBuilt [])

@@ -1,5 +1,6 @@
 -- A run, as steps from one configuration to the next. A step reads a directive and runs it, or turns to the next file.
 use Rattle.std.specs.Prelude.{◌≡◌, ℕ, nat_lt, List, [], ◌∷◌, ◌++◌, length, map, Option, Some, None, if◌then◌else◌}
+use Rattle.ath_sorts.specs.Signature.{Signature}
 use Rattle.ath_syntax.specs.declared.place.Pos.{Pos}
 use Rattle.ath_syntax.specs.Tree.{DirectiveTree, directive_at}
 use Rattle.ath_io.specs.Shelf.{front_of}
@@ -17,10 +18,11 @@ use Rattle.ath_eval.specs.Outcomes.{refusal}
 use Rattle.ath_session.specs.State.{State, with_names}
 use Rattle.ath_session.specs.Directives.{Next, goes_on, loads, ends, effect}
 
--- an event and its line
+-- an event, its line, and what is declared when it is told
 pub record Said : Type 0 where
   pub event : events.Event
   pub line : List ℕ
+  pub declared : Signature
 
 -- what a run does that is seen: it asks for the text of a name, or tells an event
 pub data Item : Type 0 where
@@ -51,7 +53,7 @@ items_of (goes items c) = items
 items_of (halts items h) = items
 
 abbrev pub said : Configuration → events.Event → Item
-said c e = tells (record { event = e; line = line_of c.state.names c.files e })
+said c e = tells (record { event = e; line = line_of c.state.names c.state.signature c.files e; declared = c.state.signature })
 
 -- the most bytes that are asked for, one more than a file has
 abbrev pub most_asked : ℕ

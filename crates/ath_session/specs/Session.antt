@@ -1,6 +1,10 @@
 -- What a session stands for, and its replies.
-use Rattle.std.specs.Prelude.{◌≡◌, ℕ, List, map, string_bytes}
+use Rattle.std.specs.Prelude.{◌≡◌, List, map, string_bytes, IfSome}
 use Rattle.std.specs.List.{All}
+use Rattle.ath_sorts.specs.Validity.{AreDistinct}
+use Rattle.ath_syntax.specs.declared.directive.What.{What}
+use Rattle.ath_syntax.specs.declared.directive.What.TheVariants.{Declare}
+use Rattle.ath_terms.specs.SortsIn.{IsSortedIn}
 use Rattle.ath_terms.specs.Trees.{Trees}
 use Rattle.ath_print.specs.declared.event.Event as told
 use Rattle.ath_print.specs.Events.{Event}
@@ -14,7 +18,16 @@ use Rattle.ath_session.specs.State.{State}
 use Rattle.ath_session.specs.Directives.{Next, goes_on, loads, ends, Effect}
 
 abbrev pub state_of : World → State
-state_of w = record { names = w.names; signature = w.sig; base = sents_of w.store w.base.items; fuel = w.fuel }
+state_of w = record { names = w.names; signature = w.sig; base = sents_of w.store w.base.items; fuel = w.fuel; fresh = w.fresh }
+
+-- what is declared is valid, and the trees of the store are well-sorted in it
+abbrev pub IsSorted : World → Type 0
+IsSorted w = IsSortedIn w.sig w.store
+
+-- the parameters that a declaration lists differ
+abbrev pub ParamsDiffer : What → Type 0
+ParamsDiffer (Declare ns params args result) = IfSome params AreDistinct
+ParamsDiffer w = Unit {0}
 
 -- the numbers in the events are numbers of the store, and the events stand for these
 abbrev pub AreEvents : Trees → List told.Event → List Event → Type 0

@@ -1,18 +1,17 @@
 // What isn't built yet.
 
-ghost use Rattle.std.specs.Prelude.{◌≡◌, ◌<◌, option_map, IfSome};
+ghost use Rattle.std.specs.Prelude.{◌≡◌, ◌<◌, ◌||◌, codes, option_map, IfSome};
+ghost use Rattle.std.specs.Str.{bytes_eq};
 ghost use Rattle.std.specs.List.{All};
 ghost use Rattle.ath_syntax.specs.Stands.{IsPhrase, ArePhrases, IsStatement};
 ghost use Rattle.ath_syntax.specs.Tree.{Phrase, Phrases as PhraseTrees, Statement};
-ghost use Rattle.ath_session.specs.Built.{is_name, is_method_name, are_expressions, unbuilt, is_boolean, is_boolean_constant, no_parameters, unbuilt_in};
+ghost use Rattle.ath_session.specs.Built.{is_name, is_head, is_method_name, are_expressions, unbuilt, unbuilt_in};
 ghost use Rattle.ath_session.specs.BuiltParts.{AreParts, parts};
 
 use ath_env::text_of;
 use ath_names::Names;
-use ath_sorts::Sym;
-use ath_sorts::sorts::BOOLEAN;
-use ath_syntax::{Form, PhraseId, Phrases, Pos, SortText, What};
-use sqlite_items::Items;
+use ath_syntax::{Form, PhraseId, Phrases, Pos, What};
+use std::slice;
 
 fn is_name(names: &Names, phrases: &Phrases, phrase: PhraseId, text: &str) -> bool
     requires { (x : Phrase) × IsPhrase phrases.now phrase x }
@@ -20,6 +19,23 @@ fn is_name(names: &Names, phrases: &Phrases, phrase: PhraseId, text: &str) -> bo
 {
     match &phrases.node(phrase).form {
         Form::Name(name) => text_of(names, *name) == text,
+        _other => false,
+    }
+}
+
+fn is_quantifier(text: &str) -> bool
+    ensures { result ≡ (bytes_eq text.now (codes "forall") || bytes_eq text.now (codes "exists")) }
+{
+    text == "forall" || text == "exists"
+}
+
+/// Whether a phrase is a name that an application may have as its head.
+fn is_head(names: &Names, phrases: &Phrases, phrase: PhraseId) -> bool
+    requires { (x : Phrase) × IsPhrase phrases.now phrase x }
+    ensures { (x : Phrase) → IsPhrase phrases.now phrase x → result ≡ is_head names.now x }
+{
+    match &phrases.node(phrase).form {
+        Form::Name(name) => !is_quantifier(text_of(names, *name)),
         _other => false,
     }
 }
@@ -51,8 +67,10 @@ fn built_parts<'a>(names: &Names, phrases: &'a Phrases, phrase: PhraseId) -> Opt
 {
     match &phrases.node(phrase).form {
         Form::Name(_) => Some(&[]),
+        Form::Var(_, _, _) => Some(&[]),
+        Form::Ascribe(part, _) => Some(slice::from_ref(part)),
         Form::Apply(head, parts) => {
-            if is_name(names, phrases, *head, "if") {
+            if is_head(names, phrases, *head) {
                 return Some(parts.as_slice());
             }
             None
@@ -85,44 +103,20 @@ pub(crate) fn unbuilt(names: &Names, phrases: &Phrases, phrase: PhraseId) -> Opt
     None
 }
 
-fn is_boolean(sort: &SortText) -> bool
-    ensures { result ≡ is_boolean sort.now }
-{
-    match sort {
-        SortText::Name(name) => name.0 == BOOLEAN.0,
-        SortText::Con(name, args) => args.len() == 0 && name.0 == BOOLEAN.0,
-        SortText::Var(_) => false,
-    }
-}
-
-fn is_boolean_constant(params: &Option<Items<Sym>>, args: &[SortText], sort: &SortText) -> bool
-    ensures { result ≡ is_boolean_constant params.now args.now sort.now }
-{
-    let without_parameters = match params {
-        Some(params) => params.len() == 0,
-        None => true,
-    };
-    args.len() == 0 && without_parameters && is_boolean(sort)
-}
-
 /// The place of the first node that isn't built of what a directive says, which stands at `at`.
 pub(crate) fn unbuilt_in(names: &Names, phrases: &Phrases, at: Pos, what: &What) -> Option<Pos>
     requires { (x : Statement) × IsStatement phrases.now what.now x }
     ensures { (x : Statement) → IsStatement phrases.now what.now x → result ≡ unbuilt_in names.now at x }
 {
     match what {
-        What::Declare(_, params, args, sort) => {
-            if is_boolean_constant(params, args.as_slice(), sort) {
-                return None;
-            }
-            Some(at)
-        }
         What::Assert(name, closed, phrase) => {
             if name.is_some() || *closed {
                 return Some(at);
             }
             unbuilt(names, phrases, *phrase)
         }
+        What::Domain(_, _) => None,
+        What::Declare(_, _, _, _) => None,
         What::Load(_) => None,
         What::Phrase(phrase) => unbuilt(names, phrases, *phrase),
         _other => Some(at),

@@ -16,7 +16,7 @@ ghost use Rattle.ath_session.specs.Directives.{effect};
 ghost use Rattle.ath_session.specs.Ends.{Outside};
 ghost use Rattle.ath_session.specs.Run.{Move, Moves, goes, said, tell_all, asking, next_file, following, lexical_kind, fault_kind};
 ghost use Rattle.ath_session.specs.Steps.{configuration_of, Did, AreGoing, Opens, IsOpened, weight};
-ghost use Rattle.ath_session.specs.Session.{state_of};
+ghost use Rattle.ath_session.specs.Session.{state_of, IsSorted, ParamsDiffer};
 
 use crate::session::{Next, Session};
 use crate::status::Status;
@@ -63,7 +63,8 @@ fn is_error(event: &Event) -> bool
 
 /// Writes the line of an event.
 fn tell<K: Sink>(alloc: Global, desk: &mut Desk, event: &Event, sink: &mut K) -> Flow
-    requires { IsEventIn desk.old.session.world.store event.now }
+    requires known { IsEventIn desk.old.session.world.store event.now }
+    requires sorted { IsSorted desk.old.session.world }
     ensures kept { desk.new ≡ record desk.old { errors = desk.new.errors } }
     ensures did { (told : Option Texts) → Did (goes (said (configuration_of desk.old) (event_of desk.old.session.world.store event.now) ∷ []) (configuration_of desk.old)) result desk.old.errors desk.new.errors (configuration_of desk.new) (record { shelf = told; sink = K.told sink.old }) (record { shelf = told; sink = K.told sink.new }) }
     ensures sink_later { K.faults sink.old ≤ K.faults sink.new }
@@ -77,6 +78,7 @@ fn tell<K: Sink>(alloc: Global, desk: &mut Desk, event: &Event, sink: &mut K) ->
         event,
         &world.names,
         desk.files.as_slice(),
+        &world.sig,
         &world.store,
     ) else {
         return Flow::End(Status::Memory);
@@ -90,7 +92,8 @@ fn tell<K: Sink>(alloc: Global, desk: &mut Desk, event: &Event, sink: &mut K) ->
 
 /// Writes the lines of events, one after the other.
 fn tell_all<K: Sink>(alloc: Global, desk: &mut Desk, events: &[Event], sink: &mut K) -> Flow
-    requires { All (IsEventIn desk.old.session.world.store) events.now }
+    requires known { All (IsEventIn desk.old.session.world.store) events.now }
+    requires sorted { IsSorted desk.old.session.world }
     ensures kept { desk.new ≡ record desk.old { errors = desk.new.errors } }
     ensures did { (told : Option Texts) → Did (goes (tell_all (configuration_of desk.old) (map (event_of desk.old.session.world.store) events.now)) (configuration_of desk.old)) result desk.old.errors desk.new.errors (configuration_of desk.new) (record { shelf = told; sink = K.told sink.old }) (record { shelf = told; sink = K.told sink.new }) }
     ensures sink_later { K.faults sink.old ≤ K.faults sink.new }
@@ -114,6 +117,7 @@ fn tell_fault<K: Sink>(
     kind: FaultKind,
     sink: &mut K,
 ) -> Flow
+    requires { IsSorted desk.old.session.world }
     ensures kept { desk.new ≡ record desk.old { errors = desk.new.errors } }
     ensures did { (told : Option Texts) → Did (goes (said (configuration_of desk.old) (refused at (refusal kind [])) ∷ []) (configuration_of desk.old)) result desk.old.errors desk.new.errors (configuration_of desk.new) (record { shelf = told; sink = K.told sink.old }) (record { shelf = told; sink = K.told sink.new }) }
     ensures sink_later { K.faults sink.old ≤ K.faults sink.new }
@@ -134,6 +138,8 @@ fn ask<S: Shelf, K: Sink>(
     shelf: &mut S,
     sink: &mut K,
 ) -> Flow
+    requires { IsSorted desk.old.session.world }
+    ensures session { desk.new.session ≡ desk.old.session }
     ensures did { (t : Texts) → S.told shelf.old ≡ Some t → Did (asking t.texts (configuration_of desk.old) at name.now) result desk.old.errors desk.new.errors (configuration_of desk.new) (record { shelf = S.told shelf.old; sink = K.told sink.old }) (record { shelf = S.told shelf.new; sink = K.told sink.new }) }
     ensures opens { result ≡ On → Opens (configuration_of desk.old) (configuration_of desk.new) }
     ensures source_later { S.faults shelf.old ≤ S.faults shelf.new }
@@ -157,6 +163,7 @@ fn ask<S: Shelf, K: Sink>(
 /// Opens a text that was fetched, unless it is too long.
 fn open(alloc: Global, desk: &mut Desk, name: &str, text: Vec<u8>) -> Result<bool, AllocError>
     ensures errors { desk.new.errors ≡ desk.old.errors }
+    ensures session { desk.new.session ≡ desk.old.session }
     ensures opened { IfOk result (λ new. IsOpened (configuration_of desk.old) name.now text.items new (configuration_of desk.new)) }
 {
     let number = desk.files.len();
@@ -198,7 +205,9 @@ fn fault_kind(kind: SyntaxKind) -> FaultKind
 
 /// The file of the command line that comes next, or the end.
 fn next_file<S: Shelf, K: Sink>(alloc: Global, desk: &mut Desk, shelf: &mut S, sink: &mut K) -> Flow
-    requires { desk.old.open.items ≡ [] }
+    requires empty { desk.old.open.items ≡ [] }
+    requires sorted { IsSorted desk.old.session.world }
+    ensures session { desk.new.session ≡ desk.old.session }
     ensures did { (t : Texts) → S.told shelf.old ≡ Some t → Did (next_file t.texts (configuration_of desk.old) (configuration_of desk.old).waiting) result desk.old.errors desk.new.errors (configuration_of desk.new) (record { shelf = S.told shelf.old; sink = K.told sink.old }) (record { shelf = S.told shelf.new; sink = K.told sink.new }) }
     ensures going { result ≡ On → AreGoing (configuration_of desk.new) }
     ensures shallow { result ≡ On → length desk.new.open.items ≤ 17 }
@@ -237,7 +246,10 @@ fn run_directive<S: Shelf, K: Sink>(
     shelf: &mut S,
     sink: &mut K,
 ) -> Flow
-    requires { (d : DirectiveTree) × IsDirective desk.old.session.world.phrases directive.now d }
+    requires directive { (d : DirectiveTree) × IsDirective desk.old.session.world.phrases directive.now d }
+    requires differ { ParamsDiffer directive.now.what }
+    requires sorted { IsSorted desk.old.session.world }
+    ensures sorted { IsSorted desk.new.session.world }
     ensures did { (t : Texts) (d : DirectiveTree) → S.told shelf.old ≡ Some t → IsDirective desk.old.session.world.phrases directive.now d → Did (following t.texts (record (configuration_of desk.old) { state = (effect (configuration_of desk.old).state d).state }) (length desk.old.open.items - 1) directive.now.pos (effect (configuration_of desk.old).state d).events (effect (configuration_of desk.old).state d).next) result desk.old.errors desk.new.errors (configuration_of desk.new) (record { shelf = S.told shelf.old; sink = K.told sink.old }) (record { shelf = S.told shelf.new; sink = K.told sink.new }) }
     ensures opens { result ≡ On → Opens (configuration_of desk.old) (configuration_of desk.new) }
     ensures shallow { result ≡ On → length desk.old.open.items ≤ 17 → length desk.new.open.items ≤ 17 }
@@ -267,6 +279,7 @@ fn run_directive<S: Shelf, K: Sink>(
 
 /// A syntax error is told, and its text isn't open any more.
 fn refuse_text<K: Sink>(alloc: Global, desk: &mut Desk, error: SyntaxError, sink: &mut K) -> Flow
+    requires { IsSorted desk.old.session.world }
     ensures kept { desk.new ≡ record desk.old { errors = desk.new.errors } }
     ensures memory { error.kind ≡ SyntaxKind.Memory → (result ≡ End Status.Memory) × (K.told sink.new ≡ K.told sink.old) }
     ensures did { (error.kind ≡ SyntaxKind.Memory → ⊥) → (told : Option Texts) → Did (goes (said (configuration_of desk.old) (refused error.pos (refusal (fault_kind error.kind) [])) ∷ []) (configuration_of desk.old)) result desk.old.errors desk.new.errors (configuration_of desk.new) (record { shelf = told; sink = K.told sink.old }) (record { shelf = told; sink = K.told sink.new }) }
@@ -290,7 +303,9 @@ fn read_on<S: Shelf, K: Sink>(
     sink: &mut K,
 ) -> Flow
     requires shallow { length desk.old.open.items ≤ 16 }
+    requires sorted { IsSorted desk.old.session.world }
     requires going { AreGoing (record (configuration_of desk.old) { stack = reader ∷ (configuration_of desk.old).stack }) }
+    ensures sorted { IsSorted desk.new.session.world }
     ensures did { (t : Texts) (m : Move) → S.told shelf.old ≡ Some t → Moves t.texts (record (configuration_of desk.old) { stack = reader ∷ (configuration_of desk.old).stack }) m → Did m result desk.old.errors desk.new.errors (configuration_of desk.new) (record { shelf = S.told shelf.old; sink = K.told sink.old }) (record { shelf = S.told shelf.new; sink = K.told sink.new }) }
     ensures going { result ≡ On → AreGoing (configuration_of desk.new) }
     ensures shallow { result ≡ On → length desk.new.open.items ≤ 17 }
@@ -322,7 +337,9 @@ pub(crate) fn advance<S: Shelf, K: Sink>(
     sink: &mut K,
 ) -> Flow
     requires shallow { length desk.old.open.items ≤ 17 }
+    requires sorted { IsSorted desk.old.session.world }
     requires going { AreGoing (configuration_of desk.old) }
+    ensures sorted { IsSorted desk.new.session.world }
     ensures did { (t : Texts) (m : Move) → S.told shelf.old ≡ Some t → Moves t.texts (configuration_of desk.old) m → Did m result desk.old.errors desk.new.errors (configuration_of desk.new) (record { shelf = S.told shelf.old; sink = K.told sink.old }) (record { shelf = S.told shelf.new; sink = K.told sink.new }) }
     ensures going { result ≡ On → AreGoing (configuration_of desk.new) }
     ensures shallow { result ≡ On → length desk.new.open.items ≤ 17 }

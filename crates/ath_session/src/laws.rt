@@ -8,6 +8,7 @@ pub fn one_report()
 {}
 
 /// The words and the texts by name have a report: whatever they say, the run ends.
+#[tactic(auto, using(crate::proofs::Existence::some_report))]
 pub fn some_report()
     ensures { SomeReport }
 {}

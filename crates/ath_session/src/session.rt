@@ -1,32 +1,34 @@
 // A session: the state of a run, and one directive after the other.
 
-ghost use Rattle.std.specs.Prelude.{◌≡◌, ◌≤◌, ◌<◌, [], ◌∷◌, ◌++◌, IfOk, OnOk, Some, None, Option, length, map, take};
+ghost use Rattle.std.specs.Prelude.{◌≡◌, ◌≤◌, ◌<◌, false, [], ◌∷◌, ◌++◌, IfOk, IfSome, OnOk, Some, None, Option, length, map, take};
 ghost use Rattle.ath_names.specs.Names.{first_names};
+ghost use Rattle.ath_sorts.specs.Validity.{AreDistinct};
 ghost use Rattle.ath_syntax.specs.Stands.{IsDirective, IsPhrase, IsStatement};
 ghost use Rattle.ath_syntax.specs.Tree.{DirectiveTree, Phrase, Statement};
 ghost use Rattle.ath_reader.specs.Reading.{Answers};
+ghost use Rattle.ath_declarations.specs.Declarations.{domain_declared, declared};
+ghost use Rattle.ath_declarations.specs.Unlisted.{is_unlisted};
 ghost use Rattle.ath_eval.specs.Evaluation.{outcome_of, place};
-ghost use Rattle.ath_eval.specs.Arguments.{IsSmallValue};
+ghost use Rattle.ath_eval.specs.Outcomes.{refusal};
 ghost use Rattle.ath_env.specs.Values.{IsIn, value_at, sentence_of};
-ghost use Rattle.ath_sorts.specs.Signature.{arity_of};
 ghost use Rattle.ath_terms.specs.Measure.{IsSmall};
-ghost use Rattle.ath_terms.specs.Trees.{sent_at};
-ghost use Rattle.ath_print.specs.Stands.{IsFaultIn, refusal_of};
-ghost use Rattle.ath_session.specs.Directives.{effect, done, declaring, asserting, asserting_sentence, showing, loading, refusing};
-ghost use Rattle.ath_session.specs.Session.{state_of, IsReply, KeepsText};
-ghost use Rattle.ath_session.specs.State.{first_state, context, joining, first_taken, with_constants, with_names};
+ghost use Rattle.ath_terms.specs.Trees.{Trees, sent_at};
+ghost use Rattle.ath_print.specs.Events.{domain_declared as told_domain, declared as told_symbols};
+ghost use Rattle.ath_print.specs.Stands.{IsFault, IsFaultIn, refusal_of};
+ghost use Rattle.ath_session.specs.Directives.{effect, done, declaring, declaration_refusal, unknown_sort, asserting, asserting_sentence, showing, loading, refusing};
+ghost use Rattle.ath_session.specs.Session.{state_of, IsSorted, ParamsDiffer, IsReply, KeepsText};
+ghost use Rattle.ath_session.specs.State.{first_state, context, joining, with_names};
 
 use crate::built::unbuilt_in;
+use ath_declarations::{declare, declare_domain, is_unlisted};
 use ath_env::{Value, sentence};
 use ath_eval::{Outcome, World, run};
-use ath_names::{NameError, Names};
+use ath_names::Names;
 use ath_print::{Event, Fault, FaultArg, FaultKind};
 use ath_reader::{OpTable, Reader, SyntaxError};
-use ath_sorts::sorts::BOOLEAN;
-use ath_sorts::{Signature, Sort, Sym};
-use ath_syntax::{Directive, PhraseId, Phrases, Pos, What};
-use ath_terms::{SentId, Store};
-use indexmap::IndexSet;
+use ath_sorts::{SigError, Signature, Sym};
+use ath_syntax::{Directive, PhraseId, Phrases, Pos, SortText, What};
+use ath_terms::{Fresh, SentId, Store};
 use sqlite_items::Items;
 use std::alloc::{AllocError, Global};
 
@@ -54,7 +56,6 @@ pub struct Session {
     pub world: World,
     operators: OpTable,
     ghost table: { take (length first_names) world.names ≡ first_names },
-    ghost boolean: { arity_of world.sig (record { 0 = 0 }) ≡ Some 0 },
 }
 
 /// A reply of one event, after which the run goes on.
@@ -81,48 +82,38 @@ fn ending(alloc: Global, at: Pos) -> Result<Reply, AllocError>
     })
 }
 
-/// The first of these names that is a symbol's, or came before among them.
-fn find_taken(alloc: Global, sig: &Signature, names: &[Sym]) -> Result<Option<Sym>, AllocError>
-    ensures { IfOk result (λ found. found ≡ first_taken sig.now names.now) }
+/// A fault that names a sort variable, or else a name.
+fn naming(alloc: Global, kind: FaultKind, variable: bool, name: Sym) -> Result<Fault, AllocError>
+    ensures { (s : Trees) → IfOk result (λ f. IsFault s f (refusal kind (unknown_sort variable name ∷ []))) }
 {
-    let mut seen: IndexSet<Sym> = IndexSet::new(alloc);
-    for name in names {
-        if sig.symbol(*name).is_some() {
-            return Ok(Some(*name));
-        }
-        if !seen.insert(*name)? {
-            return Ok(Some(*name));
-        }
+    if variable {
+        return Fault::naming(alloc, kind, FaultArg::SortName(name));
     }
-    Ok(None)
+    Fault::naming(alloc, kind, FaultArg::Name(name))
 }
 
-/// Adds constants of sort Boolean, whose names aren't taken.
-fn add_constants(alloc: Global, sig: &mut Signature, names: &[Sym]) -> Result<(), AllocError>
-    requires boolean { arity_of sig.old (record { 0 = 0 }) ≡ Some 0 }
-    requires free { first_taken sig.old names.now ≡ None }
-    ensures added { OnOk result (sig.new ≡ with_constants sig.old names.now) }
-    ensures sorts { sig.new.sorts ≡ sig.old.sorts }
+/// Why a declaration is refused; want of memory is no refusal.
+fn declaration_fault(alloc: Global, unlisted: bool, error: SigError) -> Result<Fault, AllocError>
+    ensures fault { (s : Trees) → IfOk result (λ f. IsFault s f (declaration_refusal unlisted error)) }
+    ensures memory { error ≡ SigError.Memory → OnOk result ⊥ }
 {
-    let boolean = Sort::Con(BOOLEAN, Items::new(alloc));
-    let none: Vec<Sym> = Vec::new(alloc);
-    let no_sorts: Vec<Sort> = Vec::new(alloc);
-    for name in names {
-        // No other refusal comes: the name isn't taken, and the sort is there.
-        if sig
-            .add_symbol(alloc, *name, &none, &no_sorts, &boolean)
-            .is_err()
-        {
-            return Err(AllocError);
-        }
+    match error {
+        SigError::Redeclared(name) => naming(alloc, FaultKind::Redeclared, false, name),
+        SigError::TooWide(name) => naming(alloc, FaultKind::TooWide, false, name),
+        SigError::UnknownSort(name) => naming(alloc, FaultKind::UnknownSort, unlisted, name),
+        SigError::Arity(name) => naming(alloc, FaultKind::Arity, false, name),
+        SigError::SortTooLarge => Ok(Fault::plain(alloc, FaultKind::SortTooLarge)),
+        SigError::LooseParam(name) => naming(alloc, FaultKind::LooseParam, true, name),
+        SigError::Memory => Err(AllocError),
     }
-    Ok(())
 }
 
 impl Session {
     /// A session with so many steps.
     pub fn new(alloc: Global, fuel: u64) -> Result<Session, AllocError>
-        ensures { IfOk result (λ s. state_of s.world ≡ first_state fuel) }
+        requires { fuel ≤ 1000000000 }
+        ensures state { IfOk result (λ s. state_of s.world ≡ first_state fuel) }
+        ensures sorted { IfOk result (λ s. IsSorted s.world) }
     {
         let names = match Names::new(alloc) {
             Ok(names) => names,
@@ -135,6 +126,7 @@ impl Session {
             base: Vec::new(alloc),
             phrases: Phrases::new(alloc),
             fuel,
+            fresh: Fresh::first(),
         };
         Ok(Session {
             world,
@@ -158,16 +150,21 @@ impl Session {
     ) -> Result<Option<Directive>, SyntaxError>
         ensures answers { Answers reader.old reader.old.progress self.old.world.names self.old.world.phrases result reader.new self.new.world.names self.new.world.phrases }
         ensures kept { state_of self.new.world ≡ with_names self.new.world.names (state_of self.old.world) }
+        ensures store { self.new.world.store ≡ self.old.world.store }
+        ensures differ { IfOk result (λ found. IfSome found (λ d. ParamsDiffer d.what)) }
     {
         let world = &mut self.world;
         reader.directive(alloc, &mut world.names, &mut world.phrases, &self.operators)
     }
 
-    /// Runs a directive that `read` gave. One that is refused keeps all but the fuel; where memory is wanted, it may be done
-    /// in part, and the run has to end.
+    /// Runs a directive that `read` gave. One that is refused keeps all but the fuel and the counters of fresh names; where
+    /// memory is wanted, it may be done in part, and the run has to end.
     pub fn directive(&mut self, alloc: Global, directive: &Directive) -> Result<Reply, AllocError>
-        requires { (d : DirectiveTree) × IsDirective self.old.world.phrases directive.now d }
+        requires directive { (d : DirectiveTree) × IsDirective self.old.world.phrases directive.now d }
+        requires differ { ParamsDiffer directive.now.what }
+        requires sorted { IsSorted self.old.world }
         ensures text { KeepsText self.old.world self.new.world }
+        ensures sorted { IsSorted self.new.world }
         ensures reply { IfOk result (λ r. (d : DirectiveTree) → IsDirective self.old.world.phrases directive.now d → IsReply self.new.world r (effect (state_of self.old.world) d)) }
     {
         let world = &self.world;
@@ -188,12 +185,28 @@ impl Session {
     }
 
     fn run_built(&mut self, alloc: Global, directive: &Directive) -> Result<Reply, AllocError>
-        requires { (s : Statement) × IsStatement self.old.world.phrases directive.now.what s }
+        requires statement { (s : Statement) × IsStatement self.old.world.phrases directive.now.what s }
+        requires differ { ParamsDiffer directive.now.what }
+        requires sorted { IsSorted self.old.world }
         ensures text { KeepsText self.old.world self.new.world }
+        ensures sorted { IsSorted self.new.world }
         ensures reply { IfOk result (λ r. (s : Statement) → IsStatement self.old.world.phrases directive.now.what s → IsReply self.new.world r (done (state_of self.old.world) directive.now.pos s)) }
     {
         match &directive.what {
-            What::Declare(names, _, _, _) => self.declare(alloc, directive.pos, names.as_slice()),
+            What::Domain(name, vars) => {
+                self.declare_domain(alloc, directive.pos, *name, vars.as_slice())
+            }
+            What::Declare(names, list, args, result_sort) => {
+                let args = args.as_slice();
+                self.declare(
+                    alloc,
+                    directive.pos,
+                    names.as_slice(),
+                    list,
+                    args,
+                    result_sort,
+                )
+            }
             What::Assert(_, _, phrase) => self.assert(alloc, *phrase),
             What::Load(name) => self.load(alloc, directive.pos, name.as_slice()),
             What::Phrase(phrase) => self.show(alloc, *phrase),
@@ -205,18 +218,63 @@ impl Session {
         }
     }
 
-    fn declare(&mut self, alloc: Global, at: Pos, names: &[Sym]) -> Result<Reply, AllocError>
+    fn declare_domain(
+        &mut self,
+        alloc: Global,
+        at: Pos,
+        name: Sym,
+        vars: &[Sym],
+    ) -> Result<Reply, AllocError>
+        requires { IsSorted self.old.world }
         ensures text { KeepsText self.old.world self.new.world }
-        ensures reply { IfOk result (λ r. IsReply self.new.world r (declaring (state_of self.old.world) at names.now (first_taken self.old.world.sig names.now))) }
+        ensures sorted { IsSorted self.new.world }
+        ensures reply { IfOk result (λ r. IsReply self.new.world r (declaring (state_of self.old.world) at (told_domain name) false (domain_declared self.old.world.sig name vars.now))) }
     {
-        if let Some(name) = find_taken(alloc, &self.world.sig, names)? {
-            let fault = Fault::naming(alloc, FaultKind::Redeclared, &[FaultArg::Name(name)])?;
-            let reply = self.refuse(alloc, at, fault)?;
-            return Ok(reply);
+        match declare_domain(alloc, &mut self.world.sig, name, vars) {
+            Ok(()) => telling(alloc, Event::Domain(name)),
+            Err(error) => self.refuse_declaration(alloc, at, false, error),
         }
-        add_constants(alloc, &mut self.world.sig, names)?;
-        let told = Items::from_slice(alloc, names)?;
-        let reply = telling(alloc, Event::Symbols(told))?;
+    }
+
+    fn declare(
+        &mut self,
+        alloc: Global,
+        at: Pos,
+        names: &[Sym],
+        list: &Option<Items<Sym>>,
+        args: &[SortText],
+        result_sort: &SortText,
+    ) -> Result<Reply, AllocError>
+        requires differ { IfSome list.now AreDistinct }
+        requires sorted { IsSorted self.old.world }
+        ensures text { KeepsText self.old.world self.new.world }
+        ensures sorted { IsSorted self.new.world }
+        ensures reply { IfOk result (λ r. IsReply self.new.world r (declaring (state_of self.old.world) at (told_symbols names.now) (is_unlisted self.old.world.sig list.now args.now result_sort.now) (declared self.old.world.sig names.now list.now args.now result_sort.now))) }
+    {
+        let unlisted = is_unlisted(&self.world.sig, list, args, result_sort);
+        match declare(alloc, &mut self.world.sig, names, list, args, result_sort) {
+            Ok(()) => {
+                let told = Items::from_slice(alloc, names)?;
+                let reply = telling(alloc, Event::Symbols(told))?;
+                Ok(reply)
+            }
+            Err(error) => self.refuse_declaration(alloc, at, unlisted, error),
+        }
+    }
+
+    /// The reply to a declaration that is refused. Want of memory is handed on.
+    fn refuse_declaration(
+        &self,
+        alloc: Global,
+        at: Pos,
+        unlisted: bool,
+        error: SigError,
+    ) -> Result<Reply, AllocError>
+        ensures reply { IfOk result (λ r. IsReply self.now.world r (refusing (state_of self.now.world) at (declaration_refusal unlisted error))) }
+        ensures memory { error ≡ SigError.Memory → OnOk result ⊥ }
+    {
+        let fault = declaration_fault(alloc, unlisted, error)?;
+        let reply = self.refuse(alloc, at, fault)?;
         Ok(reply)
     }
 
@@ -225,6 +283,7 @@ impl Session {
         requires { (p.0 < length self.old.world.store.sents) × IsSmall (sent_at self.old.world.store.sents p.0) }
         ensures text { KeepsText self.old.world self.new.world }
         ensures store { self.new.world.store ≡ self.old.world.store }
+        ensures sig { self.new.world.sig ≡ self.old.world.sig }
         ensures state { OnOk result (state_of self.new.world ≡ joining (state_of self.old.world) (sent_at self.old.world.store.sents p.0)) }
     {
         self.world.base.push(p)?;
@@ -233,9 +292,11 @@ impl Session {
 
     /// Asserts the sentence of a phrase.
     fn assert(&mut self, alloc: Global, phrase: PhraseId) -> Result<Reply, AllocError>
-        requires { (x : Phrase) × IsPhrase self.old.world.phrases phrase x }
+        requires phrase { (x : Phrase) × IsPhrase self.old.world.phrases phrase x }
+        requires sorted { IsSorted self.old.world }
         ensures text { KeepsText self.old.world self.new.world }
-        ensures reply { IfOk result (λ r. (x : Phrase) → IsPhrase self.old.world.phrases phrase x → IsReply self.new.world r (asserting (state_of self.old.world) (place x) (outcome_of (context (state_of self.old.world)) x self.old.world.fuel))) }
+        ensures sorted { IsSorted self.new.world }
+        ensures reply { IfOk result (λ r. (x : Phrase) → IsPhrase self.old.world.phrases phrase x → IsReply self.new.world r (asserting (state_of self.old.world) (place x) (outcome_of (context (state_of self.old.world)) x self.old.world.fuel self.old.world.fresh))) }
     {
         let at = self.world.phrases.node(phrase).pos;
         match run(alloc, &mut self.world, phrase)? {
@@ -248,8 +309,10 @@ impl Session {
 
     fn assert_value(&mut self, alloc: Global, at: Pos, value: Value) -> Result<Reply, AllocError>
         requires known { IsIn self.old.world.store value }
-        requires small { IsSmallValue (value_at self.old.world.store value) }
+        requires small { IfSome (sentence_of (value_at self.old.world.store value)) IsSmall }
+        requires sorted { IsSorted self.old.world }
         ensures text { KeepsText self.old.world self.new.world }
+        ensures sorted { IsSorted self.new.world }
         ensures reply { IfOk result (λ r. IsReply self.new.world r (asserting_sentence (state_of self.old.world) at (sentence_of (value_at self.old.world.store value)))) }
     {
         let Some(p) = sentence(&mut self.world.store, value)? else {
@@ -263,9 +326,11 @@ impl Session {
 
     /// Shows the value of an expression; the conclusion of a deduction joins the base.
     fn show(&mut self, alloc: Global, phrase: PhraseId) -> Result<Reply, AllocError>
-        requires { (x : Phrase) × IsPhrase self.old.world.phrases phrase x }
+        requires phrase { (x : Phrase) × IsPhrase self.old.world.phrases phrase x }
+        requires sorted { IsSorted self.old.world }
         ensures text { KeepsText self.old.world self.new.world }
-        ensures reply { IfOk result (λ r. (x : Phrase) → IsPhrase self.old.world.phrases phrase x → IsReply self.new.world r (showing (state_of self.old.world) (outcome_of (context (state_of self.old.world)) x self.old.world.fuel))) }
+        ensures sorted { IsSorted self.new.world }
+        ensures reply { IfOk result (λ r. (x : Phrase) → IsPhrase self.old.world.phrases phrase x → IsReply self.new.world r (showing (state_of self.old.world) (outcome_of (context (state_of self.old.world)) x self.old.world.fuel self.old.world.fresh))) }
     {
         match run(alloc, &mut self.world, phrase)? {
             Outcome::Value(value) => telling(alloc, Event::Shown(value)),

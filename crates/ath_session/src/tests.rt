@@ -54,7 +54,7 @@ fn expect_lines(
 
 #[test]
 fn scripts_give_their_reports(rt: HostRuntime) -> Result<(), Fail> {
-    let rows: [(&[u8], &str, Status); 11] = [
+    let rows: [(&[u8], &str, Status); 13] = [
         (FIRST, FIRST_LINES, Status::Clean),
         (b"# nothing\n", "", Status::Clean),
         (
@@ -75,6 +75,16 @@ fn scripts_give_their_reports(rt: HostRuntime) -> Result<(), Fail> {
         (
             b"declare A: Boolean (if A A A) (if claim A) (!mp A []) assert mp (!mp A A) (!claim)",
             "Symbols: A\nError: \"x.ath\":1:20: ArgCount 2 3\nError: \"x.ath\":1:31: WrongKind 1\nError: \"x.ath\":1:51: NotBuilt\nError: \"x.ath\":1:62: NotSentence\nError: \"x.ath\":1:65: WrongShape 1\nError: \"x.ath\":1:75: ArgCount 1 0\n",
+            Status::Errors,
+        ),
+        (
+            b"domain N\ndomain (List 'T)\ndeclare zero: N\ndeclare nil: (List 'T)\n(= nil zero)",
+            "Domain: N\nDomain: List\nSymbols: zero\nSymbols: nil\nError: \"x.ath\":5:1: SortClash (List 'S1) N\n",
+            Status::Errors,
+        ),
+        (
+            b"domain N declare a, b, a: N a b",
+            "Domain: N\nError: \"x.ath\":1:10: Redeclared a\nError: \"x.ath\":1:29: Unbound a\nError: \"x.ath\":1:31: Unbound b\n",
             Status::Errors,
         ),
         (

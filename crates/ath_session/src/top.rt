@@ -6,6 +6,7 @@ ghost use Rattle.ath_io.specs.Shelf.{Texts};
 ghost use Rattle.ath_words.specs.Words.{run_of};
 ghost use Rattle.ath_session.specs.declared.status.Status.TheVariants.{Memory, SinkFault, SourceFault, Usage};
 ghost use Rattle.ath_session.specs.Ends.{Reports, ReportsTold, Completes};
+ghost use Rattle.ath_session.specs.Session.{IsSorted};
 ghost use Rattle.ath_session.specs.Steps.{IsNewDesk};
 
 use crate::desk::{Desk, Flow, advance};
@@ -42,7 +43,9 @@ pub fn athena<S: Shelf, K: Sink>(
 
 /// A desk on which nothing is done yet.
 fn desk_of(alloc: Global, fuel: u64, files: &[&str]) -> Result<Desk, AllocError>
-    ensures { IfOk result (λ desk. IsNewDesk desk fuel (map (λ file. file.now) files.now)) }
+    requires { fuel ≤ 1000000000 }
+    ensures new { IfOk result (λ desk. IsNewDesk desk fuel (map (λ file. file.now) files.now)) }
+    ensures sorted { IfOk result (λ desk. IsSorted desk.session.world) }
 {
     let session = Session::new(alloc, fuel)?;
     let mut named = Vec::new(alloc);
@@ -67,6 +70,7 @@ fn run_files<S: Shelf, K: Sink>(
     shelf: &mut S,
     sink: &mut K,
 ) -> Status
+    requires { fuel ≤ 1000000000 }
     ensures report { (t : Texts) → S.told shelf.old ≡ Some t → Reports t.texts (Some (record { fuel = fuel; files = map (λ file. file.now) files.now })) result (record { shelf = S.told shelf.old; sink = K.told sink.old }) (record { shelf = S.told shelf.new; sink = K.told sink.new }) }
     ensures no_usage { result ≡ Usage → ⊥ }
     ensures source_later { S.faults shelf.old ≤ S.faults shelf.new }

@@ -1,11 +1,19 @@
 -- The tree of a connective has its parts.
-use Rattle.std.proofs.Common.{◌≡◌, ℕ, List, [], ◌∷◌, length, map, refl, sym, ◌∙◌, arith}
+use Rattle.std.proofs.Common.{◌≡◌, ℕ, ◌&&◌, Bool, true, false, List, [], ◌∷◌, length, map, refl, sym, ◌∙◌, ap, arith}
+use Rattle.std.specs.List.{list_all}
+use Rattle.ath_sorts.specs.declared.sorts.SVar.{SVar}
+use Rattle.ath_sorts.specs.declared.sorts.Sort.{Sort}
+use Rattle.ath_sorts.specs.Signature.{Signature}
+use Rattle.ath_terms.specs.SortsIn.{sent_has_small_sorts}
+use Rattle.ath_terms.specs.Under.{sent_under}
 use Rattle.ath_terms.specs.declared.node.Conn.{Conn}
 use Rattle.ath_terms.specs.declared.node.Conn.TheVariants.{Not, And, Or, If, Iff}
 use Rattle.ath_terms.specs.declared.node.TermId.{TermId}
 use Rattle.ath_terms.specs.declared.node.SentId.{SentId}
 use Rattle.ath_terms.specs.declared.node.SentNode.{SentNode}
 use Rattle.ath_terms.specs.declared.node.SentNode.TheVariants as node
+use Rattle.ath_terms.specs.declared.node.Var.{Var}
+use Rattle.ath_terms.specs.Variables.{with_sent, with_sents}
 use Rattle.ath_terms.specs.Tree.{Term, Sent, atom, negated, joined}
 use Rattle.ath_terms.specs.Trees.{term_at, sent_at}
 use Rattle.ath_terms.specs.Nodes.{conn_tree, sent_tree, arity, IsSentBelow}
@@ -52,6 +60,52 @@ conns-same c d ss rs l k e = same_parts (parts_of c ss l) (parts_of d rs k) e
 length-map : {A B : Type 0} (f : A → B) (xs : List A) → length (map f xs) ≡ length xs
 length-map f [] = refl
 length-map f (x ∷ xs) = let e = length-map f xs in omega arith
+
+vars_of_parts : (found : List Var) {c : Conn} {ss : List Sent} {p : Sent} → Parts c ss p → with_sent found p ≡ with_sents found ss
+vars_of_parts found one = refl
+vars_of_parts found (two n) = refl
+
+-- its free variables are those of its parts
+pub vars_of_conn : (found : List Var) (c : Conn) (ss : List Sent) (ids : List SentId) → length ids ≡ arity c → with_sent found (conn_tree c (map (λ i. sent_at ss i.0) ids)) ≡ with_sents found (map (λ i. sent_at ss i.0) ids)
+vars_of_conn found c ss ids l = vars_of_parts found (parts_of c (map (λ i. sent_at ss i.0) ids) (length-map (λ i. sent_at ss i.0) ids ∙ l))
+
+under_parts : (f : SVar → Sort) {c : Conn} {ss : List Sent} {p : Sent} → Parts c ss p → sent_under f p ≡ conn_tree c (map (sent_under f) ss)
+under_parts f one = refl
+under_parts f (two {c} {p} {q} n) = pair_tree c n (sent_under f p) (sent_under f q)
+  where
+    pair_tree : (c : Conn) → (c ≡ Not → ⊥) → (x y : Sent) → joined c x y ≡ conn_tree c (x ∷ y ∷ [])
+    pair_tree Not m x y = absurd (m refl)
+    pair_tree And m x y = refl
+    pair_tree Or m x y = refl
+    pair_tree If m x y = refl
+    pair_tree Iff m x y = refl
+
+through : (f : SVar → Sort) (ss : List Sent) (ids : List SentId) → map (sent_under f) (map (λ i. sent_at ss i.0) ids) ≡ map (λ i. sent_under f (sent_at ss i.0)) ids
+through f ss [] = refl
+through f ss (i ∷ ids) = ap (λ l. sent_under f (sent_at ss i.0) ∷ l) (through f ss ids)
+
+-- under a substitution it is the connective of its parts under it
+pub under_of_conn : (f : SVar → Sort) (c : Conn) (ss : List Sent) (ids : List SentId) → length ids ≡ arity c → sent_under f (conn_tree c (map (λ i. sent_at ss i.0) ids)) ≡ conn_tree c (map (λ i. sent_under f (sent_at ss i.0)) ids)
+under_of_conn f c ss ids l = under_parts f (parts_of c (map (λ i. sent_at ss i.0) ids) (length-map (λ i. sent_at ss i.0) ids ∙ l)) ∙ ap (conn_tree c) (through f ss ids)
+
+small_parts : (sig : Signature) (f : SVar → Sort) {c : Conn} {ss : List Sent} {p : Sent} → Parts c ss p → sent_has_small_sorts sig (sent_under f p) ≡ list_all (λ q. sent_has_small_sorts sig (sent_under f q)) ss
+small_parts sig f (one {p}) = sym (and-end (sent_has_small_sorts sig (sent_under f p)))
+  where
+    and-end : (b : Bool) → (b && true) ≡ b
+    and-end true = refl
+    and-end false = refl
+small_parts sig f (two {c} {p} {q} n) = ap (λ b. sent_has_small_sorts sig (sent_under f p) && b) (sym (and-end (sent_has_small_sorts sig (sent_under f q))))
+  where
+    and-end : (b : Bool) → (b && true) ≡ b
+    and-end true = refl
+    and-end false = refl
+
+map-all : (p : Sent → Bool) (ss : List Sent) (ids : List SentId) → list_all p (map (λ i. sent_at ss i.0) ids) ≡ list_all (λ i. p (sent_at ss i.0)) ids
+map-all p ss [] = refl
+map-all p ss (i ∷ ids) = ap (λ b. p (sent_at ss i.0) && b) (map-all p ss ids)
+
+pub small_of_conn : (sig : Signature) (f : SVar → Sort) (c : Conn) (ss : List Sent) (ids : List SentId) → length ids ≡ arity c → sent_has_small_sorts sig (sent_under f (conn_tree c (map (λ i. sent_at ss i.0) ids))) ≡ list_all (λ i. sent_has_small_sorts sig (sent_under f (sent_at ss i.0))) ids
+small_of_conn sig f c ss ids l = small_parts sig f (parts_of c (map (λ i. sent_at ss i.0) ids) (length-map (λ i. sent_at ss i.0) ids ∙ l)) ∙ map-all (λ q. sent_has_small_sorts sig (sent_under f q)) ss ids
 
 -- over two nodes of a store
 module _ (ts : List Term) (ss : List Sent) (a b k l : ℕ) (p q : ℕ) (m n : SentNode) (left : sent_tree ts ss m ≡ sent_at ss p) (right : sent_tree ts ss n ≡ sent_at ss q) where

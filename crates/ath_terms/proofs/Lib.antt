@@ -6,4 +6,22 @@ pub mod SameLaws
 pub mod Parts
 pub mod ConnParts
 pub mod Measures
+pub mod VariableLaws
+pub mod FreshLaws
+pub mod ValidSorts
+pub mod UnderLaws
+pub mod WithinLaws
+pub mod StepLaws
+pub mod SortedLaws
+pub mod UnifierValid
+pub mod ConstructionLaws
+pub mod EquationLaws
+pub mod TermLaws
+pub mod ListLaws
+pub mod ApplicationLaws
+pub mod SentLaws
+pub mod SentWithin
+pub mod GroupLaws
+pub mod ConnectiveLaws
+pub mod SignatureGrowth
 mod Rows

@@ -55,11 +55,11 @@ module _ {A : Type 0} (f : A → ℕ) where
   pub most-all : (xs : List A) (n : ℕ) → length xs ≤ n → most f (take n xs) ≡ most f xs
   most-all xs n h = ap (most f) (take-all xs n h)
 
-listed-size : {A : Type 0} (g : A → Term) (xs : List A) → terms_size (listed (map g xs)) ≡ total (λ x. term_size (g x)) xs
+pub listed-size : {A : Type 0} (g : A → Term) (xs : List A) → terms_size (listed (map g xs)) ≡ total (λ x. term_size (g x)) xs
 listed-size g [] = refl
 listed-size g (x ∷ xs) = let t = listed-size g xs in omega (arith, t)
 
-listed-depth : {A : Type 0} (g : A → Term) (xs : List A) → terms_depth (listed (map g xs)) ≡ most (λ x. term_depth (g x)) xs
+pub listed-depth : {A : Type 0} (g : A → Term) (xs : List A) → terms_depth (listed (map g xs)) ≡ most (λ x. term_depth (g x)) xs
 listed-depth g [] = refl
 listed-depth g (x ∷ xs) = let t = listed-depth g xs in omega (arith, t)
 

@@ -1,12 +1,11 @@
 -- Nodes and their trees.
-use Rattle.std.proofs.Common.{◌≡◌, ℕ, suc, ◌<◌, List, [], ◌∷◌, ◌++◌, length, map, refl, ◌∙◌, ap, arith}
+use Rattle.std.proofs.Common.{◌≡◌, ℕ, suc, ◌<◌, List, [], ◌∷◌, map, refl, ap, arith}
 use Rattle.std.specs.List.{All}
-use Rattle.ath_terms.specs.declared.node.Conn.{Conn}
 use Rattle.ath_terms.specs.declared.node.TermNode.{TermNode}
 use Rattle.ath_terms.specs.declared.node.TermNode.TheVariants.{Var, App}
 use Rattle.ath_terms.specs.declared.node.SentNode.{SentNode}
 use Rattle.ath_terms.specs.declared.node.SentNode.TheVariants as node
-use Rattle.ath_terms.specs.Tree.{Term, app, listed, Sent, atom, joined, bound}
+use Rattle.ath_terms.specs.Tree.{Term, app, listed, Sent, atom, bound}
 use Rattle.ath_terms.specs.Trees.{blank, term_at, sent_at}
 use Rattle.ath_terms.specs.Nodes.{term_tree, conn_tree, sent_tree, IsTermBelow, IsSentBelow}
 use Rattle.ath_terms.proofs.BuiltLaws.{Respects}

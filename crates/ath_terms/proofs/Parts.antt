@@ -6,7 +6,7 @@ use Rattle.ath_sorts.specs.declared.sorts.Sort.{Sort}
 use Rattle.ath_terms.specs.declared.node.TermId.{TermId}
 use Rattle.ath_terms.specs.declared.node.TermNode.{TermNode}
 use Rattle.ath_terms.specs.declared.node.TermNode.TheVariants.{App}
-use Rattle.ath_terms.specs.Tree.{Term, Terms, app, none, more, listed}
+use Rattle.ath_terms.specs.Tree.{Term, app, listed}
 use Rattle.ath_terms.specs.Trees.{term_at}
 use Rattle.ath_terms.specs.Nodes.{term_tree}
 

@@ -1,16 +1,23 @@
 -- The view of a store, one node later, and one node's tree.
-use Rattle.std.proofs.Common.{◌≡◌, ℕ, ◌+◌, ◌<◌, ◌≤◌, List, [], ◌∷◌, ◌++◌, length, get_or, refl, sym, ap, arith, length-append}
+use Rattle.std.proofs.Common.{◌≡◌, ℕ, zero, suc, ◌+◌, ◌<◌, ◌≤◌, List, [], ◌∷◌, ◌++◌, length, map, get_or, refl, sym, ◌∙◌, ap, arith, length-append}
+use Rattle.ath_sorts.specs.declared.sorts.Sort.{Sort}
+use Rattle.ath_sorts.specs.Signature.{boolean}
+use Rattle.ath_terms.specs.declared.store.SortedNode.{SortedNode}
 use Rattle.ath_terms.specs.declared.node.TermNode.{TermNode}
 use Rattle.ath_terms.specs.declared.node.SentNode.{SentNode}
 use Rattle.ath_terms.specs.declared.node.SentNode.TheVariants as node
 use Rattle.ath_terms.specs.Tree.{Term, Sent, atom, equal}
-use Rattle.ath_terms.specs.Trees.{Trees, blank, term_at, sent_at}
+use Rattle.ath_terms.specs.Trees.{Trees, blank, term_at, sort_at, sent_at}
 use Rattle.ath_terms.specs.Built.{built, IsOrdered}
 use Rattle.ath_terms.specs.Nodes.{term_tree, sent_tree, term_trees, sent_trees, IsTermBelow, IsSentBelow}
 use Rattle.ath_terms.proofs.BuiltLaws.{get_or-append-left, built-push, built-length, built-at, ordered-push, ordered-at}
 use Rattle.ath_terms.proofs.NodeLaws.{terms-respect, sents-respect}
 
-abbrev pub view_of : List TermNode → List SentNode → Trees
+record Pair : Type 0 where
+  pub terms : List Term
+  pub sents : List Sent
+
+abbrev view_of : List TermNode → List SentNode → Pair
 view_of ns ms = record { terms = term_trees ns; sents = sent_trees (term_trees ns) ms }
 
 abbrev pub IsWell : List TermNode → List SentNode → Type 0
@@ -38,7 +45,7 @@ sents-keep ts us m k ss [] h o = refl
 sents-keep ts us m k ss (s ∷ ms) h o = rw (sent_tree-keeps ts us ss m k s h o.0) (sents-keep ts us m (k + 1) (ss ++ sent_tree ts ss s ∷ []) ms h o.1)
 
 -- ---- the clauses
-pub view-add_term : (ns : List TermNode) (ms : List SentNode) (n : TermNode) → IsWell ns ms → view_of (ns ++ n ∷ []) ms ≡ record { terms = term_trees ns ++ term_tree (term_trees ns) n ∷ []; sents = sent_trees (term_trees ns) ms }
+view-add_term : (ns : List TermNode) (ms : List SentNode) (n : TermNode) → IsWell ns ms → view_of (ns ++ n ∷ []) ms ≡ record { terms = term_trees ns ++ term_tree (term_trees ns) n ∷ []; sents = sent_trees (term_trees ns) ms }
 view-add_term ns ms n w =
     let p = built-push term_tree [] ns n in
     let l = built-length term_tree [] ns in
@@ -47,16 +54,16 @@ view-add_term ns ms n w =
     let q = sents-keep (term_trees ns) (term_trees ns ++ term_tree (term_trees ns) n ∷ []) (length ns) 0 [] ms grown w.1 in
     rw p (λ i. record { terms = term_trees ns ++ term_tree (term_trees ns) n ∷ []; sents = q i })
 
-pub well-add_term : (ns : List TermNode) (ms : List SentNode) (n : TermNode) → IsWell ns ms → IsTermBelow (length (term_trees ns)) n → IsWell (ns ++ n ∷ []) ms
+well-add_term : (ns : List TermNode) (ms : List SentNode) (n : TermNode) → IsWell ns ms → IsTermBelow (length (term_trees ns)) n → IsWell (ns ++ n ∷ []) ms
 well-add_term ns ms n w b =
     let l = built-length term_tree [] ns in
     let e : length (term_trees ns) ≡ 0 + length ns = omega arith in
     (ordered-push IsTermBelow 0 ns n w.0 (rw e at b), ordered-more (length ns) (length (ns ++ n ∷ [])) 0 ms (omega (arith, length-append ns (n ∷ []))) w.1)
 
-pub view-add_sent : (ns : List TermNode) (ms : List SentNode) (n : SentNode) → view_of ns (ms ++ n ∷ []) ≡ record { terms = term_trees ns; sents = sent_trees (term_trees ns) ms ++ sent_tree (term_trees ns) (sent_trees (term_trees ns) ms) n ∷ [] }
+view-add_sent : (ns : List TermNode) (ms : List SentNode) (n : SentNode) → view_of ns (ms ++ n ∷ []) ≡ record { terms = term_trees ns; sents = sent_trees (term_trees ns) ms ++ sent_tree (term_trees ns) (sent_trees (term_trees ns) ms) n ∷ [] }
 view-add_sent ns ms n = rw (built-push (sent_tree (term_trees ns)) [] ms n)
 
-pub well-add_sent : (ns : List TermNode) (ms : List SentNode) (n : SentNode) → IsWell ns ms → IsSentBelow (length (term_trees ns)) (length (sent_trees (term_trees ns) ms)) n → IsWell ns (ms ++ n ∷ [])
+well-add_sent : (ns : List TermNode) (ms : List SentNode) (n : SentNode) → IsWell ns ms → IsSentBelow (length (term_trees ns)) (length (sent_trees (term_trees ns) ms)) n → IsWell ns (ms ++ n ∷ [])
 well-add_sent ns ms n w b =
     let l = built-length term_tree [] ns in
     let k = built-length (sent_tree (term_trees ns)) [] ms in
@@ -83,27 +90,84 @@ pub sent-below : (m : ℕ) (ms : List SentNode) (k : ℕ) (d : SentNode) → IsO
 sent-below m ms k d o h = let e : 0 + k ≡ k = omega arith in rw e at (ordered-at (IsSentBelow m) 0 ms k d o h)
 
 -- ---- over what the view is
-module _ (ns : List TermNode) (ms : List SentNode) (v : Trees) (is : view_of ns ms ≡ v) (w : IsWell ns ms) where
-  pub then-add_term : (n : TermNode) (items : List TermNode) → items ≡ ns ++ n ∷ [] → view_of items ms ≡ record { terms = v.terms ++ term_tree v.terms n ∷ []; sents = v.sents }
-  then-add_term n items e = rw (e, ← is) (view-add_term ns ms n w)
+abbrev pub nodes_of : List SortedNode → List TermNode
+nodes_of es = map (λ e. e.node) es
 
-  pub then-add_sent : (n : SentNode) (items : List SentNode) → items ≡ ms ++ n ∷ [] → view_of ns items ≡ record { terms = v.terms; sents = v.sents ++ sent_tree v.terms v.sents n ∷ [] }
-  then-add_sent n items e = rw (e, ← is) (view-add_sent ns ms n)
+abbrev pub sorts_of : List SortedNode → List Sort
+sorts_of es = map (λ e. e.sort) es
 
-  pub terms-count : length v.terms ≡ length ns
-  terms-count = rw (← is) (terms-length ns)
+map-push : {A B : Type 0} (f : A → B) (xs : List A) (x : A) → map f (xs ++ x ∷ []) ≡ map f xs ++ f x ∷ []
+map-push f [] x = refl
+map-push f (y ∷ xs) x = ap (λ l. f y ∷ l) (map-push f xs x)
+
+map-count : {A B : Type 0} (f : A → B) (xs : List A) → length (map f xs) ≡ length xs
+map-count f [] = refl
+map-count f (x ∷ xs) = let e = map-count f xs in omega arith
+
+map-get : {A B : Type 0} (f : A → B) (xs : List A) (k : ℕ) (d : A) (b : B) → k < length xs → get_or (map f xs) k b ≡ f (get_or xs k d)
+map-get f [] k d b h = absurd (omega arith)
+map-get f (x ∷ xs) zero d b h = refl
+map-get f (x ∷ xs) (suc k) d b h = map-get f xs k d b (omega arith)
+
+abbrev pub whole_view : List SortedNode → List SentNode → Trees
+whole_view es ms = record { terms = term_trees (nodes_of es); sorts = sorts_of es; sents = sent_trees (term_trees (nodes_of es)) ms }
+
+module _ (es : List SortedNode) (ms : List SentNode) (v : Trees) (is : whole_view es ms ≡ v) (w : IsWell (nodes_of es) ms) where
+  pub then-add_term : (n : TermNode) (r : Sort) (items : List SortedNode) → items ≡ es ++ record { node = n; sort = r } ∷ [] → whole_view items ms ≡ record { terms = v.terms ++ term_tree v.terms n ∷ []; sorts = v.sorts ++ r ∷ []; sents = v.sents }
+  then-add_term n r items e =
+      let a = map-push (λ (e : SortedNode). e.node) es (record { node = n; sort = r }) in
+      let b = map-push (λ (e : SortedNode). e.sort) es (record { node = n; sort = r }) in
+      let q = view-add_term (nodes_of es) ms n w in
+      rw (e, ← is, a, b) (λ i. record { terms = (q i).terms; sorts = sorts_of es ++ r ∷ []; sents = (q i).sents })
+
+  pub well-then-term : (n : TermNode) (r : Sort) (items : List SortedNode) → items ≡ es ++ record { node = n; sort = r } ∷ [] → IsTermBelow (length v.terms) n → IsWell (nodes_of items) ms
+  well-then-term n r items e b = rw (e, map-push (λ (e : SortedNode). e.node) es (record { node = n; sort = r })) (well-add_term (nodes_of es) ms n w (rw (← is) at b))
+
+  pub then-add_sent : (n : SentNode) (items : List SentNode) → items ≡ ms ++ n ∷ [] → whole_view es items ≡ record { terms = v.terms; sorts = v.sorts; sents = v.sents ++ sent_tree v.terms v.sents n ∷ [] }
+  then-add_sent n items e = let q = view-add_sent (nodes_of es) ms n in rw (e, ← is) (λ i. record { terms = term_trees (nodes_of es); sorts = sorts_of es; sents = (q i).sents })
+
+  pub well-then-sent : (n : SentNode) (items : List SentNode) → items ≡ ms ++ n ∷ [] → IsSentBelow (length v.terms) (length v.sents) n → IsWell (nodes_of es) items
+  well-then-sent n items e b = rw e (well-add_sent (nodes_of es) ms n w (rw (← is) at b))
+
+  pub terms-count : length v.terms ≡ length es
+  terms-count = rw (← is) (terms-length (nodes_of es) ∙ map-count (λ (e : SortedNode). e.node) es)
+
+  pub sorts-count : length v.sorts ≡ length v.terms
+  sorts-count =
+      let e = terms-count in
+      let m = map-count (λ (e : SortedNode). e.sort) es in
+      let p : length (sorts_of es) ≡ length v.sorts = ap (λ (t : Trees). length t.sorts) is in
+      omega arith
 
   pub sents-count : length v.sents ≡ length ms
-  sents-count = rw (← is) (sents-length (term_trees ns) ms)
+  sents-count = rw (← is) (sents-length (term_trees (nodes_of es)) ms)
 
-  pub term-is : (k : ℕ) (d : TermNode) → k < length v.terms → term_tree v.terms (get_or ns k d) ≡ term_at v.terms k
-  term-is k d h = let e = terms-count in rw (← is) (term-node ns k d w.0 (omega arith))
+  pub term-is : (k : ℕ) (d : SortedNode) → k < length v.terms → term_tree v.terms (get_or es k d).node ≡ term_at v.terms k
+  term-is k d h =
+      let e = terms-count in
+      let m = map-count (λ (e : SortedNode). e.node) es in
+      let g = map-get (λ (e : SortedNode). e.node) es k d d.node (omega arith) in
+      rw (← is) (rw g at (term-node (nodes_of es) k d.node w.0 (omega arith)))
+
+  pub sort-is : (k : ℕ) (d : SortedNode) → k < length v.terms → (get_or es k d).sort ≡ sort_at v.sorts k
+  sort-is k d h =
+      let e = terms-count in
+      rw (← is) (sym (map-get (λ (e : SortedNode). e.sort) es k d boolean (omega arith)))
 
   pub sent-is : (k : ℕ) (d : SentNode) → k < length v.sents → sent_tree v.terms v.sents (get_or ms k d) ≡ sent_at v.sents k
-  sent-is k d h = let e = sents-count in rw (← is) (sent-node (term_trees ns) (length ns) ms k d w.1 (omega arith))
+  sent-is k d h = let e = sents-count in rw (← is) (sent-node (term_trees (nodes_of es)) (length (nodes_of es)) ms k d w.1 (omega arith))
 
-  pub term-parts : (k : ℕ) (d : TermNode) → k < length v.terms → IsTermBelow k (get_or ns k d)
-  term-parts k d h = let e = terms-count in term-below ns k d w.0 (omega arith)
+  pub term-parts : (k : ℕ) (d : SortedNode) → k < length v.terms → IsTermBelow k (get_or es k d).node
+  term-parts k d h =
+      let e = terms-count in
+      let m = map-count (λ (e : SortedNode). e.node) es in
+      let g = map-get (λ (e : SortedNode). e.node) es k d d.node (omega arith) in
+      rw g at (term-below (nodes_of es) k d.node w.0 (omega arith))
 
   pub sent-parts : (k : ℕ) (d : SentNode) → k < length v.sents → IsSentBelow (length v.terms) k (get_or ms k d)
-  sent-parts k d h = let e = sents-count in rw terms-count (sent-below (length ns) ms k d w.1 (omega arith))
+  sent-parts k d h =
+      let e = sents-count in
+      let t = terms-count in
+      let m = map-count (λ (e : SortedNode). e.node) es in
+      let l : length (nodes_of es) ≡ length v.terms = omega arith in
+      rw l at (sent-below (length (nodes_of es)) ms k d w.1 (omega arith))

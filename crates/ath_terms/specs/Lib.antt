@@ -7,3 +7,9 @@ pub mod Built
 pub mod Lists
 pub mod Same
 pub mod WellSorted
+pub mod SortsIn
+pub mod Variables
+pub mod Under
+pub mod Fresh
+pub mod Construction
+pub mod Plain

@@ -3,7 +3,7 @@
 use Rattle.std.specs.Prelude.{◌≡◌, ℕ, ◌+◌, ◌<◌, ◌≤◌, max, Result, Ok, Err}
 use Rattle.ath_terms.specs.declared.node.SentId.{SentId}
 use Rattle.ath_terms.specs.declared.measure.BuildError.{BuildError}
-use Rattle.ath_terms.specs.declared.measure.BuildError.TheVariants.{TooLarge, TooDeep, Memory}
+use Rattle.ath_terms.specs.declared.measure.BuildError.TheVariants.{SortClash, ArgCount, NotBoolean, TooLarge, TooDeep, SortTooLarge, Memory}
 use Rattle.ath_terms.specs.Tree.{Term, Terms, var, app, none, more, Sent, atom, equal, negated, joined, bound}
 use Rattle.ath_terms.specs.Trees.{Trees, IsSent}
 
@@ -58,3 +58,7 @@ IsBuilt s (Ok p) x = IsSent s p.0 x × IsSmall x
 IsBuilt s (Err (TooLarge n)) x = (most_nodes < sent_size x) × (n ≡ sent_size x)
 IsBuilt s (Err (TooDeep n)) x = (sent_size x ≤ most_nodes) × (most_levels < sent_depth x) × (n ≡ sent_depth x)
 IsBuilt s (Err Memory) x = Unit {0}
+IsBuilt s (Err (SortClash a b)) x = ⊥
+IsBuilt s (Err (ArgCount m n)) x = ⊥
+IsBuilt s (Err (NotBoolean t)) x = ⊥
+IsBuilt s (Err SortTooLarge) x = ⊥

@@ -1,13 +1,18 @@
 //! Terms and sentences as numbered nodes, each of which stands for a tree.
 #![tactic(auto)]
 
+pub mod construction;
 pub mod equality;
+pub mod fresh;
 pub mod measure;
 pub mod node;
 pub mod store;
+#[cfg(test)]
+mod tests;
 
+pub use fresh::Fresh;
 pub use measure::{
-    BuildError, MOST_LEVELS, MOST_NODES, join, sent_depth, sent_size, term_depth, term_size,
+    BuildError, MOST_LEVELS, MOST_NODES, sent_depth, sent_size, term_depth, term_size,
 };
 pub use node::{Conn, Quant, SentId, SentNode, TermId, TermNode, Var};
 pub use store::Store;

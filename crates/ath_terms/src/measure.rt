@@ -1,14 +1,17 @@
-// The nodes and levels of trees, and building within the limits.
+// The nodes and levels of trees.
 
 ghost use Rattle.std.specs.Prelude.{◌≡◌, ◌<◌, ◌≤◌, length, IfOk};
+ghost use Rattle.ath_sorts.specs.Signature.{Signature};
+ghost use Rattle.ath_terms.specs.SortsIn.{IsSortedIn};
 ghost use Rattle.ath_terms.specs.Trees.{term_at, sent_at, Grows, IsSent};
 ghost use Rattle.ath_terms.specs.Tree.{joined};
-ghost use Rattle.ath_terms.specs.Measure.{term_size, term_depth, sent_size, sent_depth, most_nodes, most_levels, IsSmall, IsBuilt};
+ghost use Rattle.ath_terms.specs.Measure.{term_size, term_depth, sent_size, sent_depth, most_nodes, most_levels};
 ghost use Rattle.ath_terms.specs.declared.node.Conn.TheVariants.{Not};
 ghost use Rattle.ath_terms.specs.declared.measure.BuildError.TheVariants.{Memory};
 
 use crate::node::{Conn, SentId, SentNode, TermId, TermNode};
 use crate::store::Store;
+use ath_sorts::Sort;
 use sqlite_items::Items;
 use std::alloc::{AllocError, Global};
 use thiserror::Error;
@@ -19,15 +22,26 @@ pub const MOST_NODES: u64 = 100_000;
 /// The most levels of a value.
 pub const MOST_LEVELS: u64 = 2_000;
 
-/// Why a sentence isn't built.
-#[derive(Clone, Copy, Debug, PartialEq, Eq, Error)]
+/// Why a term or a sentence isn't built.
+#[derive(Debug, Drop, Error)]
 pub enum BuildError {
+    /// the two sides of the first pair of sorts that can't be made equal with those before it
+    #[error("two sorts can't be made equal")]
+    SortClash(Sort, Sort),
+    /// the wanted number of arguments or parts, and the given one
+    #[error("{1} arguments, and {0} are wanted")]
+    ArgCount(usize, usize),
+    /// a term whose sort can't be Boolean
+    #[error("a term that can't have sort Boolean")]
+    NotBoolean(TermId),
     /// it would have so many nodes
     #[error("{0} nodes, and 100000 are the most")]
     TooLarge(u64),
     /// it would have so many levels
     #[error("{0} levels, and 2000 are the most")]
     TooDeep(u64),
+    #[error("a sort is above the limits")]
+    SortTooLarge,
     #[error("out of memory")]
     Memory,
 }
@@ -120,7 +134,7 @@ pub fn sent_depth(store: &Store, p: SentId) -> u64
     }
 }
 
-fn add_joined(
+pub(crate) fn add_joined(
     alloc: Global,
     store: &mut Store,
     conn: Conn,
@@ -132,38 +146,11 @@ fn add_joined(
     requires right { q.0 < length store.old.sents }
     ensures grows { Grows store.old store.new }
     ensures tree { IfOk result (λ r. IsSent store.new r.0 (joined conn (sent_at store.old.sents p.0) (sent_at store.old.sents q.0))) }
+    ensures sorted { (sig : Signature) → IsSortedIn sig store.old → IsSortedIn sig store.new }
 {
     let mut parts = Items::new(alloc);
     parts.push(p)?;
     parts.push(q)?;
     let sent = store.add_sent(SentNode::Conn(conn, parts))?;
-    Ok(sent)
-}
-
-/// The connective of two parts.
-pub fn join(
-    alloc: Global,
-    store: &mut Store,
-    conn: Conn,
-    p: SentId,
-    q: SentId,
-) -> Result<SentId, BuildError>
-    requires two { conn ≡ Not → ⊥ }
-    requires left { p.0 < length store.old.sents }
-    requires right { q.0 < length store.old.sents }
-    requires left_small { IsSmall (sent_at store.old.sents p.0) }
-    requires right_small { IsSmall (sent_at store.old.sents q.0) }
-    ensures grows { Grows store.old store.new }
-    ensures built { IsBuilt store.new result (joined conn (sent_at store.old.sents p.0) (sent_at store.old.sents q.0)) }
-{
-    let nodes = 1 + sent_size(store, p) + sent_size(store, q);
-    if MOST_NODES < nodes {
-        return Err(BuildError::TooLarge(nodes));
-    }
-    let levels = 1 + sent_depth(store, p).max(sent_depth(store, q));
-    if MOST_LEVELS < levels {
-        return Err(BuildError::TooDeep(levels));
-    }
-    let sent = add_joined(alloc, store, conn, p, q)?;
     Ok(sent)
 }

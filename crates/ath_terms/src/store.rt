@@ -1,23 +1,31 @@
 // The store of nodes, which only grows.
 
 ghost use Rattle.std.specs.Prelude.{◌≡◌, ℕ, ◌+◌, ◌<◌, [], ◌∷◌, ◌++◌, length, IfOk, OnErr};
-ghost use Rattle.ath_terms.specs.Trees.{Trees, term_at, sent_at, Grows, IsTerm, IsSent};
+ghost use Rattle.ath_terms.specs.Trees.{Trees, term_at, sort_at, sent_at, Grows, IsTerm, IsSent};
 ghost use Rattle.ath_terms.specs.Nodes.{term_tree, sent_tree, IsTermBelow, IsSentBelow};
 
 use crate::node::{SentId, SentNode, TermId, TermNode};
+use ath_sorts::Sort;
 use std::alloc::{AllocError, Global};
 use std::marker::Model;
 
+/// A term with its sort.
+#[derive(Debug, Drop)]
+pub struct SortedNode {
+    pub node: TermNode,
+    pub sort: Sort,
+}
+
 /// Nodes of terms and sentences by number, whose parts have smaller numbers. A number stands for a tree, and keeps it
-/// while the store grows.
+/// while the store grows; that of a term keeps its sort too.
 #[derive(Drop)]
 pub struct Store {
-    terms: Vec<TermNode>,
+    terms: Vec<SortedNode>,
     sents: Vec<SentNode>,
 }
 
 impl Model for Store {
-    ghost use Rattle.std.specs.Prelude.{length};
+    ghost use Rattle.std.specs.Prelude.{length, map};
     ghost use Rattle.ath_terms.specs.Trees.{Trees, trees_code};
     ghost use Rattle.ath_terms.specs.Nodes.{term_trees, sent_trees, IsTermBelow, IsSentBelow};
     ghost use Rattle.ath_terms.specs.Built.{IsOrdered};
@@ -26,15 +34,19 @@ impl Model for Store {
 
     ghost coded = { trees_code };
 
-    ghost view = { λ s. record { terms = term_trees s.terms.items; sents = sent_trees (term_trees s.terms.items) s.sents.items } };
+    ghost view = { λ s. record { terms = term_trees (map (λ e. e.node) s.terms.items); sorts = map (λ e. e.sort) s.terms.items; sents = sent_trees (term_trees (map (λ e. e.node) s.terms.items)) s.sents.items } };
 
-    ghost invariant = { λ s. IsOrdered IsTermBelow 0 s.terms.items × IsOrdered (IsSentBelow (length s.terms.items)) 0 s.sents.items };
+    ghost invariant = { λ s. IsOrdered IsTermBelow 0 (map (λ e. e.node) s.terms.items) × IsOrdered (IsSentBelow (length (map (λ e. e.node) s.terms.items))) 0 s.sents.items };
 }
 
 impl Store {
+    ghost use Rattle.ath_sorts.specs.Signature.{Signature};
+    ghost use Rattle.ath_terms.specs.SortsIn.{IsSortedIn};
+    ghost use Rattle.ath_terms.specs.WellSorted.{HasSort, IsWellSorted};
+
     /// A store without nodes.
     pub fn new(alloc: Global) -> Store
-        ensures { result ≡ record { terms = []; sents = [] } }
+        ensures { result ≡ record { terms = []; sorts = []; sents = [] } }
     {
         Store {
             terms: Vec::new(alloc),
@@ -42,15 +54,17 @@ impl Store {
         }
     }
 
-    /// Adds a node as it is: its sorts are not looked at.
-    pub fn add_term(&mut self, node: TermNode) -> Result<TermId, AllocError>
+    /// Adds a node as it is with its sort: neither is looked at.
+    pub fn add_term(&mut self, node: TermNode, sort: Sort) -> Result<TermId, AllocError>
         requires { IsTermBelow (length self.old.terms) node }
         ensures grows { Grows self.old self.new }
         ensures tree { IfOk result (λ t. IsTerm self.new t.0 (term_tree self.old.terms node)) }
+        ensures sort { IfOk result (λ t. sort_at self.new.sorts t.0 ≡ sort) }
+        ensures sorted { IfOk result (λ t. (sig : Signature) → IsSortedIn sig self.old → HasSort sig (term_tree self.old.terms node) sort → IsSortedIn sig self.new) }
         ensures err { OnErr result (self.new ≡ self.old) }
     {
         let id = TermId(self.terms.len());
-        self.terms.push(node)?;
+        self.terms.push(SortedNode { node, sort })?;
         Ok(id)
     }
 
@@ -59,6 +73,7 @@ impl Store {
         requires { IsSentBelow (length self.old.terms) (length self.old.sents) node }
         ensures grows { Grows self.old self.new }
         ensures tree { IfOk result (λ p. IsSent self.new p.0 (sent_tree self.old.terms self.old.sents node)) }
+        ensures sorted { IfOk result (λ p. (sig : Signature) → IsSortedIn sig self.old → IsWellSorted sig (sent_tree self.old.terms self.old.sents node) → IsSortedIn sig self.new) }
         ensures err { OnErr result (self.new ≡ self.old) }
     {
         let id = SentId(self.sents.len());
@@ -72,7 +87,15 @@ impl Store {
         ensures tree { term_tree self.now.terms result.now ≡ term_at self.now.terms t.0 }
         ensures below { IsTermBelow t.0 result.now }
     {
-        &self.terms[t.0]
+        &self.terms[t.0].node
+    }
+
+    /// The sort of a term: that of a variable, or that which an application was given.
+    pub fn sort_of(&self, t: TermId) -> &Sort
+        requires { t.0 < length self.now.terms }
+        ensures { result.now ≡ sort_at self.now.sorts t.0 }
+    {
+        &self.terms[t.0].sort
     }
 
     /// The node of a sentence.

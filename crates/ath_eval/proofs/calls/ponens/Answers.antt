@@ -2,7 +2,7 @@ use Rattle.std.proofs.Common.{List, sym, subst}
 use Rattle.ath_env.specs.Values.{Value}
 use Rattle.ath_eval.specs.Base.{sents_of}
 use Rattle.ath_eval.specs.Methods as methods
-use Rattle.ath_eval.specs.World.{IsAnswer}
+use Rattle.ath_eval.specs.World.{IsSteady}
 use Rattle.ath_eval.proofs.Arguments.{no_value, as_many, two_arguments}
 use Rattle.ath_eval.proofs.Counts.{ponens_count}
 use Rattle.ath_eval.proofs.Ponens.{same_answer}
@@ -10,7 +10,7 @@ use Rattle.ath_eval.proofs.calls.ponens.Goals as goal
 
 pub returns-then-args-eq2-clause-outcome : goal.returns-then-args-eq2-clause-outcome
 returns-then-args-eq2-clause-outcome c = λ xs h. let a = c.args in let s = a.store.now in
-    subst (λ (ys : List Value). IsAnswer c.mp.new.store c.in_ok-outcome.outcome (methods.ponens (sents_of s a.base.now) ys a.at)) (sym (two_arguments s a.args.now xs no_value no_value c.if-args-eq2.true h)) c.in_ok-outcome.ensures.outcome
+    subst (λ (ys : List Value). IsSteady c.mp.new.store c.in_ok-outcome.outcome (methods.ponens (sents_of s a.base.now) ys a.at)) (sym (two_arguments s a.args.now xs no_value no_value c.if-args-eq2.true h)) c.in_ok-outcome.ensures.outcome
 
 pub returns-clause-outcome : goal.returns-clause-outcome
 returns-clause-outcome c = λ xs h. let a = c.args in let s = a.store.now in

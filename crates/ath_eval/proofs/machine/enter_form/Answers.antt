@@ -1,30 +1,42 @@
-use Rattle.std.proofs.Common.{arith}
+use Rattle.std.proofs.Common.{refl, arith}
 use Rattle.ath_terms.proofs.Grow.{grows-none}
 use Rattle.ath_env.specs.LookUp.{looked_up}
-use Rattle.ath_eval.specs.Evaluation.{found, unbuilt}
-use Rattle.ath_eval.specs.declared.frame.Frame.TheVariants.{Head}
+use Rattle.ath_eval.specs.Evaluation.{found, variable, unbuilt}
+use Rattle.ath_eval.specs.declared.frame.Frame.TheVariants.{Head, Ascription}
 use Rattle.ath_eval.specs.Settings.{reading}
-use Rattle.ath_eval.proofs.Stretches.{steps_done, steps_push, form_named, form_applied, form_called, form_unbuilt}
+use Rattle.ath_eval.proofs.Stretches.{steps_done, steps_push, form_named, form_varied, form_ascribed, form_applied, form_called, form_unbuilt}
 use Rattle.ath_eval.proofs.machine.enter_form.Goals as goal
 
 pub returns-in_ok-outcome-in-Name-clause-steps : goal.returns-in_ok-outcome-in-Name-clause-steps
 returns-in_ok-outcome-in-Name-clause-steps c = λ fuel. let a = c.args in let s = a.store.now in let nodes = a.set.now.phrases.now in let r = reading a.set.now s in let n = c.node-node.result.now in let o = c.in_ok-outcome-in-Name in let fs = a.stack.now.items in
-    steps_done r nodes s _ _ c.find.new.store fuel o.outcome fs o.ensures.grows (omega arith)
-    (λ out m. (found c.in-Name.name n.pos (looked_up r.names r.signature c.in-Name.name) fuel, o.ensures.outcome fuel, form_named r nodes s a.phrase fs out n c.node-node.ensures.node a.levels fuel c.in-Name.name c.in-Name.is m))
+    steps_done r nodes s _ _ c.find.new.store fuel c.find.new.fresh o.outcome fs o.ensures.grows (omega arith)
+    (λ out m. (found r c.in-Name.name n.pos (looked_up r.names r.signature c.in-Name.name) fuel a.fresh.now, o.ensures.outcome r refl fuel, form_named r nodes s a.fresh.now a.phrase fs out n c.node-node.ensures.node a.levels fuel c.in-Name.name c.in-Name.is m))
 
 pub returns-in_ok-push-in-Apply-clause-steps : goal.returns-in_ok-push-in-Apply-clause-steps
 returns-in_ok-push-in-Apply-clause-steps c = λ fuel. let a = c.args in let s = a.store.now in let nodes = a.set.now.phrases.now in let r = reading a.set.now s in let n = c.node-node.result.now in let k = c.in-Apply in let fs = a.stack.now.items in
-    steps_push r nodes s _ _ fuel k.head a.levels fs (Head a.phrase a.levels) c.push.new.self.items c.in_ok-push-in-Apply.ensures.items (omega arith)
-    (λ out m. form_applied r nodes s a.phrase fs out n c.node-node.ensures.node a.levels fuel k.head k.field-1 k.is m)
+    steps_push r nodes s _ _ fuel a.fresh.now k.head a.levels fs (Head a.phrase a.levels) c.push-in-Apply.new.self.items c.in_ok-push-in-Apply.ensures.items (omega arith)
+    (λ out m. form_applied r nodes s a.fresh.now a.phrase fs out n c.node-node.ensures.node a.levels fuel k.head k.field-1 k.is m)
 
 pub returns-in_ok-push-in-Call-clause-steps : goal.returns-in_ok-push-in-Call-clause-steps
 returns-in_ok-push-in-Call-clause-steps c = λ fuel. let a = c.args in let s = a.store.now in let nodes = a.set.now.phrases.now in let r = reading a.set.now s in let n = c.node-node.result.now in let k = c.in-Call in let fs = a.stack.now.items in
-    steps_push r nodes s _ _ fuel k.head a.levels fs (Head a.phrase a.levels) c.push-in-Call.new.self.items c.in_ok-push-in-Call.ensures.items (omega arith)
-    (λ out m. form_called r nodes s a.phrase fs out n c.node-node.ensures.node a.levels fuel k.head k.field-1 k.is m)
+    steps_push r nodes s _ _ fuel a.fresh.now k.head a.levels fs (Head a.phrase a.levels) c.push-in-Call.new.self.items c.in_ok-push-in-Call.ensures.items (omega arith)
+    (λ out m. form_called r nodes s a.fresh.now a.phrase fs out n c.node-node.ensures.node a.levels fuel k.head k.field-1 k.is m)
+
+pub returns-in_ok-outcome-in-Var-clause-steps : goal.returns-in_ok-outcome-in-Var-clause-steps
+returns-in_ok-outcome-in-Var-clause-steps c = λ fuel. let a = c.args in let s = a.store.now in let nodes = a.set.now.phrases.now in let r = reading a.set.now s in let n = c.node-node.result.now in let o = c.in_ok-outcome-in-Var in let fs = a.stack.now.items in let k = c.in-Var in
+    steps_done r nodes s _ _ c.variable.new.store fuel c.variable.new.fresh o.outcome fs o.ensures.grows (omega arith)
+    (λ out m. (variable r k.name k.index k.text n.pos fuel a.fresh.now, o.ensures.outcome r refl fuel, form_varied r nodes s a.fresh.now a.phrase fs out n c.node-node.ensures.node a.levels fuel k.name k.index k.text k.is m))
+
+pub returns-in_ok-push-in-Ascribe-clause-steps : goal.returns-in_ok-push-in-Ascribe-clause-steps
+returns-in_ok-push-in-Ascribe-clause-steps c = λ fuel. let a = c.args in let s = a.store.now in let nodes = a.set.now.phrases.now in let r = reading a.set.now s in let n = c.node-node.result.now in let k = c.in-Ascribe in let fs = a.stack.now.items in
+    steps_push r nodes s _ _ fuel a.fresh.now k.part a.levels fs (Ascription a.phrase) c.push.new.self.items c.in_ok-push-in-Ascribe.ensures.items (omega arith)
+    (λ out m. form_ascribed r nodes s a.fresh.now a.phrase fs out n c.node-node.ensures.node a.levels fuel k.part k.field-1 k.is m)
 
 pub returns-in_default : goal.returns-in_default
 returns-in_default c = let a = c.args in let s = a.store.now in let nodes = a.set.now.phrases.now in let r = reading a.set.now s in let n = c.node-node.result.now in let fs = a.stack.now.items in record {
   grows = grows-none s;
-  steps = λ fuel. steps_done r nodes s _ _ s fuel c.bare.result fs (grows-none s) (omega arith)
-      (λ out m. (unbuilt n.pos fuel, c.bare.ensures s fuel, form_unbuilt r nodes s a.phrase fs out n c.node-node.ensures.node a.levels fuel c.in_default.not-Name c.in_default.not-Apply c.in_default.not-Call m));
+  sorted = c.requires.sorted;
+  room = omega arith;
+  steps = λ fuel. steps_done r nodes s _ _ s fuel a.fresh.now c.bare.result fs (grows-none s) (omega arith)
+      (λ out m. (unbuilt n.pos fuel a.fresh.now, c.bare.ensures s a.fresh.now fuel, form_unbuilt r nodes s a.fresh.now a.phrase fs out n c.node-node.ensures.node a.levels fuel c.in_default.not-Name c.in_default.not-Var c.in_default.not-Ascribe c.in_default.not-Apply c.in_default.not-Call m));
 }

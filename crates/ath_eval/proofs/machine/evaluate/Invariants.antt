@@ -1,4 +1,5 @@
-use Rattle.std.proofs.Common.{◌≡◌, []}
+use Rattle.std.proofs.Common.{◌≡◌, ◌+◌, ◌*◌, ◌≤◌, [], length}
+use Rattle.ath_terms.specs.SortsIn.{IsSortedIn}
 use Rattle.ath_terms.specs.Trees.{Grows}
 use Rattle.ath_eval.specs.declared.frame.State.TheVariants.{Enter}
 use Rattle.ath_eval.specs.Base.{AreIn}
@@ -11,9 +12,11 @@ abbrev pub invariant-loop-state : goal.invariant-loop-state
 invariant-loop-state l = record {
   grows : Grows l.fn.store l.store;
   base : AreIn l.store l.set.base.now;
+  sorted : IsSortedIn l.set.sig.now l.store;
+  room : l.fresh.sort + 64 * (l.fuel + length l.stack.items) ≤ 64000000001;
   same : reading l.set l.store ≡ reading l.set l.fn.store;
-  known : (out : Outcome) × Means (reading l.set l.store) l.set.phrases.now l.store l.fuel l.state l.stack.items out;
-  means : (out : Outcome) → Means (reading l.set l.fn.store) l.set.phrases.now l.fn.store l.fn.fuel (Enter l.fn.phrase l.fn.levels) [] out → Means (reading l.set l.store) l.set.phrases.now l.store l.fuel l.state l.stack.items out;
+  known : (out : Outcome) × Means (reading l.set l.store) l.set.phrases.now l.store l.fuel l.fresh l.state l.stack.items out;
+  means : (out : Outcome) → Means (reading l.set l.fn.store) l.set.phrases.now l.fn.store l.fn.fuel l.fn.fresh (Enter l.fn.phrase l.fn.levels) [] out → Means (reading l.set l.store) l.set.phrases.now l.store l.fuel l.fresh l.state l.stack.items out;
 }
 
 abbrev pub decreases-loop-state : goal.decreases-loop-state

@@ -1,5 +1,6 @@
-use Rattle.std.proofs.Common.{◌≡◌, ℕ, List, length, Some, None, sym, subst, arith}
+use Rattle.std.proofs.Common.{◌≡◌, ◌<◌, ℕ, List, length, Some, None, sym, subst, arith}
 use Rattle.std.specs.Prelude.{slice_get}
+use Rattle.ath_syntax.specs.Fits.{most}
 use Rattle.ath_env.specs.declared.value.Value.{Value}
 use Rattle.ath_eval.specs.declared.frame.Frame.TheVariants.{Argument}
 use Rattle.ath_eval.specs.Arguments.{AreArguments}
@@ -10,13 +11,13 @@ use Rattle.ath_eval.proofs.machine.take_arguments.Goals as goal
 
 pub returns-in_ok-outcome-in-None-clause-steps : goal.returns-in_ok-outcome-in-None-clause-steps
 returns-in_ok-outcome-in-None-clause-steps c = λ fuel. let a = c.args in let s = a.store.now in let nodes = a.set.now.phrases.now in let r = reading a.set.now s in let o = c.in_ok-outcome-in-None in let fs = a.stack.now.items in
-    let none : slice_get (arguments_at nodes a.phrase) (length a.done) ≡ None = sym (subst (λ (n : ℕ). None ≡ slice_get (arguments_at nodes a.phrase) n) c.len.ensures c.in-None.ensures) in
-    steps_done r nodes s _ _ c.act.new.store fuel o.outcome fs o.ensures.grows (omega arith)
-    (λ out m. let k = arguments_done r nodes s a.phrase fs out a.head a.done a.levels fuel none m in
-    (acts r k.0 k.1 k.2 fuel, o.ensures.outcome k.0 k.1 k.2 k.3 k.4 (subst (λ (vs : List Value). AreArguments s vs k.2) (sym c.as_slice.ensures) k.5) fuel, k.6))
+    let none : slice_get (arguments_at nodes a.phrase) (length a.done) ≡ None = sym (subst (λ (n : ℕ). None ≡ slice_get (arguments_at nodes a.phrase) n) c.len.ensures c.in-None.ensures.number) in
+    steps_done r nodes s _ _ c.act.new.store fuel c.act.new.fresh o.outcome fs o.ensures.grows (omega arith)
+    (λ out m. let k = arguments_done r nodes s a.fresh.now a.phrase fs out a.head a.done a.levels fuel none m in
+    (acts r k.0 k.1 k.2 fuel a.fresh.now, o.ensures.outcome k.0 k.1 k.2 k.3 k.4 (subst (λ (vs : List Value). AreArguments s vs k.2) (sym c.as_slice.ensures) k.5) fuel, k.6))
 
 pub returns-in_ok-push-in-Some-clause-steps : goal.returns-in_ok-push-in-Some-clause-steps
 returns-in_ok-push-in-Some-clause-steps c = λ fuel. let a = c.args in let s = a.store.now in let nodes = a.set.now.phrases.now in let r = reading a.set.now s in let k = c.in-Some in let fs = a.stack.now.items in
-    let some : slice_get (arguments_at nodes a.phrase) (length a.done) ≡ Some k.next = sym (subst (λ (n : ℕ). Some k.next ≡ slice_get (arguments_at nodes a.phrase) n) c.len.ensures c.in-Some.ensures) in
-    steps_push r nodes s _ _ fuel k.next a.levels fs (Argument a.phrase a.head a.done a.levels) c.push.new.self.items c.in_ok-push-in-Some.ensures.items (omega arith)
-    (λ out m. arguments_next r nodes s a.phrase fs out a.head a.done a.levels fuel k.next some m)
+    let some : slice_get (arguments_at nodes a.phrase) (length a.done) ≡ Some k.next = sym (subst (λ (n : ℕ). Some k.next ≡ slice_get (arguments_at nodes a.phrase) n) c.len.ensures c.in-Some.ensures.number) in
+    steps_push r nodes s _ _ fuel a.fresh.now k.next a.levels fs (Argument a.phrase a.head a.done a.levels) c.push.new.self.items c.in_ok-push-in-Some.ensures.items (omega arith)
+    (λ out m. arguments_next r nodes s a.fresh.now a.phrase fs out a.head a.done a.levels fuel k.next some (subst (λ (n : ℕ). n < most) c.len.ensures k.ensures.few) m)

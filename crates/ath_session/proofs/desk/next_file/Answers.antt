@@ -22,15 +22,15 @@ returns-clause-did g c = λ t told.
 pub returns-clause-going : goal.returns-clause-going
 returns-clause-going g c = λ on.
     opens_going (configuration_of (record c.args.desk.now { next = c.args.desk.now.next + 1 })) (configuration_of c.ask.new.desk) (c.ask.ensures.opens on)
-    (All-same IsGoing (reverse c.args.desk.now.open.items) [] (ap (λ rs. reverse rs) c.requires) (All-nil IsGoing))
+    (All-same IsGoing (reverse c.args.desk.now.open.items) [] (ap (λ rs. reverse rs) c.requires.empty) (All-nil IsGoing))
 
 pub returns-clause-falls : goal.returns-clause-falls
 returns-clause-falls g c = λ on.
     let there : c.args.desk.now.next < length c.args.desk.now.named.items = omega arith in
     let waits = next_waiting string_bytes c.args.desk.now.named.items c.args.desk.now.next c.index.result.now there (sym c.index.ensures) in
-    file_falls (configuration_of c.args.desk.now) (configuration_of c.ask.new.desk) (string_bytes c.index.result.now) (drop (c.args.desk.now.next + 1) (map string_bytes c.args.desk.now.named.items)) waits (ap (λ rs. reverse rs) c.requires) (c.ask.ensures.opens on)
+    file_falls (configuration_of c.args.desk.now) (configuration_of c.ask.new.desk) (string_bytes c.index.result.now) (drop (c.args.desk.now.next + 1) (map string_bytes c.args.desk.now.named.items)) waits (ap (λ rs. reverse rs) c.requires.empty) (c.ask.ensures.opens on)
 
 pub returns-clause-shallow : goal.returns-clause-shallow
 returns-clause-shallow g c = λ on.
     let h = opens_items (configuration_of (record c.args.desk.now { next = c.args.desk.now.next + 1 })) (configuration_of c.ask.new.desk) c.args.desk.now.open.items c.ask.new.desk.open.items refl refl (c.ask.ensures.opens on) in
-    omega (arith, h, ap (λ xs. length xs) c.requires)
+    omega (arith, h, ap (λ xs. length xs) c.requires.empty)

@@ -1,4 +1,4 @@
-use Rattle.std.proofs.Common.{◌∷◌, ◌-◌, ◌≤◌, List, Ok, length, reverse, refl, sym, ◌∙◌, ap, subst}
+use Rattle.std.proofs.Common.{◌∷◌, ◌-◌, ◌≤◌, List, Option, Result, Ok, length, reverse, refl, sym, ◌∙◌, ap, subst}
 use Rattle.std.proofs.lemmas.List.{length-reverse}
 use Rattle.std.proofs.lemmas.List.Elements.{All-head, All-tail, All-cons, All-same}
 use Rattle.ath_reader.specs.Reading.{Reading, reached}
@@ -11,6 +11,10 @@ use Rattle.ath_session.proofs.ReadLaws.{reads, same_state, pushed, read_to, refu
 use Rattle.ath_session.proofs.WeightLaws.{popped_falls, text_falls, opens_going}
 use Rattle.ath_reader.proofs.OneNext.{one_next}
 use Rattle.ath_reader.proofs.Advance.{advances}
+use Rattle.std.specs.Prelude.{IfOk, IfSome}
+use Rattle.ath_syntax.specs.declared.directive.Directive.{Directive}
+use Rattle.ath_reader.specs.declared.reader.SyntaxError.{SyntaxError}
+use Rattle.ath_session.specs.Session.{ParamsDiffer}
 use Rattle.ath_session.proofs.desk.read_on.Goals as goal
 
 pub returns-in-Ok-None-clause-did : goal.returns-in-Ok-None-clause-did
@@ -29,8 +33,8 @@ returns-in-Ok-None-clause-falls g c = λ on.
     let is = All-head IsGoing c.args.reader (reverse c.args.desk.now.open.items) c.requires.going in
     popped_falls (configuration_of c.args.desk.now) (configuration_of (record c.args.desk.now { session = c.read.new.self })) c.args.reader is.0 is.1.0 refl refl
 
-pub run_directive-requires : goal.run_directive-requires
-run_directive-requires g c =
+pub run_directive-requires-clause-directive : goal.run_directive-requires-clause-directive
+run_directive-requires-clause-directive g c =
     let is = All-head IsGoing c.args.reader (reverse c.args.desk.now.open.items) c.requires.going in
     let answers = reads c.args.reader is.0 c.args.desk.now.session.world.names c.args.desk.now.session.world.phrases c.read.result c.read.new.reader c.read.new.self.world.names c.read.new.self.world.phrases is.1.0 c.read.ensures.answers in
     let found = whole_of_answer c.args.reader is.0 c.args.desk.now.session.world.names c.args.desk.now.session.world.phrases c.read.new.reader c.read.new.self.world.names c.read.new.self.world.phrases c.read.result answers c.in-Ok-Some.directive (c.in-Ok-Some.is ∙ ap Ok c.in-Ok-Some.field-0-is) in
@@ -90,3 +94,7 @@ pub returns-in-Err-clause-falls : goal.returns-in-Err-clause-falls
 returns-in-Err-clause-falls g c = λ on.
     let is = All-head IsGoing c.args.reader (reverse c.args.desk.now.open.items) c.requires.going in
     popped_falls (configuration_of c.args.desk.now) (configuration_of c.refuse_text.new.desk) c.args.reader is.0 is.1.0 (ap (λ (d : Desk). (configuration_of d).waiting) c.refuse_text.ensures.kept) (ap (λ (d : Desk). reverse d.open.items) c.refuse_text.ensures.kept)
+
+pub run_directive-requires-clause-differ : goal.run_directive-requires-clause-differ
+run_directive-requires-clause-differ g c =
+    subst (λ (o : Result (Option Directive) SyntaxError). IfOk o (λ found. IfSome found (λ d. ParamsDiffer d.what))) (c.in-Ok-Some.is ∙ ap Ok c.in-Ok-Some.field-0-is) c.read.ensures.differ

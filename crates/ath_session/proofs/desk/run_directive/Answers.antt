@@ -1,4 +1,4 @@
-use Rattle.std.proofs.Common.{◌≤◌, ◌<◌, ◌-◌, length, map, arith, refl, sym, ◌∙◌, ap, subst, string_bytes}
+use Rattle.std.proofs.Common.{[], ◌≤◌, ◌<◌, ◌-◌, length, map, arith, refl, sym, ◌∙◌, ap, subst, string_bytes}
 use Rattle.ath_print.specs.Stands.{event_of}
 use Rattle.ath_session.specs.State.{State}
 use Rattle.ath_session.specs.Directives.{effect, loads}
@@ -6,7 +6,7 @@ use Rattle.ath_session.specs.Session.{state_of, next_of}
 use Rattle.ath_session.specs.declared.status.Status.TheVariants.{Fuel}
 use Rattle.ath_session.specs.Run.{Move, out_of_fuel, tell_all}
 use Rattle.ath_session.specs.Steps.{configuration_of, Did, Ended}
-use Rattle.ath_session.proofs.DeskLaws.{out_after, ends_before_halt}
+use Rattle.ath_session.proofs.DeskLaws.{no_items, out_after, ends_before_halt}
 use Rattle.ath_session.proofs.MoveLaws.{goes_is, ends_is, loads_is, no_load_is}
 use Rattle.ath_session.proofs.WeightLaws.{opens_items}
 use Rattle.ath_session.proofs.desk.run_directive.Goals as goal
@@ -70,3 +70,6 @@ pub returns-clause-shallow : goal.returns-clause-shallow
 returns-clause-shallow g c = λ on shallow.
     let h = opens_items (configuration_of (record c.args.desk.now { session = c.directive.new.self })) (configuration_of c.ask.new.desk) c.args.desk.now.open.items c.ask.new.desk.open.items refl refl (c.ask.ensures.opens on) in
     omega arith
+
+pub returns-in_default-clause-did : goal.returns-in_default-clause-did
+returns-in_default-clause-did g c = λ t d told is. ([], _, (refl, sym (no_items (record { shelf = g.S.Shelf.told c.args.shelf.now; sink = g.K.Sink.told c.args.sink.now }))))

@@ -2,7 +2,8 @@ use Rattle.std.proofs.Common.{◌≡◌, Some, None, map, string_bytes, refl, su
 use Rattle.ath_words.specs.Words.{run_of, asked_of}
 use Rattle.ath_session.specs.declared.status.Status.TheVariants.{Usage}
 use Rattle.ath_session.specs.Ends.{Outside, Reports}
-use Rattle.ath_session.proofs.TopLaws.{none-spelled, none-read, completes}
+use Rattle.ath_session.proofs.TopLaws.{none-read, none-spelled, completes}
+use Rattle.ath_session.proofs.FuelLaws.{run_bounded}
 use Rattle.ath_session.proofs.top.athena.Goals as goal
 
 pub returns-in-Err-clause-report : goal.returns-in-Err-clause-report
@@ -10,8 +11,8 @@ returns-in-Err-clause-report g c = λ t h. none-read t.texts (run_of (map string
 
 pub returns-in-Ok-None-clause-report : goal.returns-in-Ok-None-clause-report
 returns-in-Ok-None-clause-report g c = λ t h.
-    let o : Outside = record { shelf = g.S.Shelf.told c.args.shelf.now; sink = g.K.Sink.told c.args.sink.now } in
     let none : None ≡ run_of (map string_bytes c.args.words.now.items) = search rules in
+    let o : Outside = record { shelf = g.S.Shelf.told c.args.shelf.now; sink = g.K.Sink.told c.args.sink.now } in
     subst (λ a. Reports t.texts a Usage o o) none (none-spelled t.texts Usage o refl refl)
 
 pub returns-in-Ok-Some-clause-complete : goal.returns-in-Ok-Some-clause-complete
@@ -22,3 +23,8 @@ returns-in-Ok-Some-clause-complete g c = λ source sink t h wanted r i.
     completes t.texts (run_of (map string_bytes c.args.words.now.items)) c.run_files.result before after
     wanted (λ e. source (c.run_files.ensures.source_cause e)) (λ e. sink (c.run_files.ensures.sink_cause e))
     (subst (λ a. Reports t.texts a c.run_files.result before after) run (search rules)) r i
+
+pub run_files-requires : goal.run_files-requires
+run_files-requires g c =
+    let run : Some (asked_of c.in-Ok-Some.run') ≡ run_of (map string_bytes c.args.words.now.items) = search rules in
+    run_bounded (map string_bytes c.args.words.now.items) (asked_of c.in-Ok-Some.run') run

@@ -1,4 +1,4 @@
-use Rattle.std.proofs.Common.{◌≡◌, sym, arith}
+use Rattle.std.proofs.Common.{sym, arith}
 use Rattle.ath_terms.specs.Trees.{sent_at}
 use Rattle.ath_terms.proofs.Parts.{map-at}
 use Rattle.ath_terms.proofs.ConnParts.{conn_is_no_atom, conns_are_same}

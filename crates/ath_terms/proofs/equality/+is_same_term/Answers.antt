@@ -1,7 +1,7 @@
-use Rattle.std.proofs.Common.{◌≡◌, ◌↔◌, IsTrue, length, map, take, sym, ◌∙◌, ap, refl, arith}
+use Rattle.std.proofs.Common.{◌≡◌, ap, refl, arith}
 use Rattle.ath_sorts.specs.declared.sorts.Sym.{Sym}
 use Rattle.ath_terms.specs.Trees.{term_at}
-use Rattle.ath_terms.proofs.Parts.{SameApp, map-lengths, map-at, map-take-all, same_apps, apps_same}
+use Rattle.ath_terms.proofs.Parts.{map-lengths, map-at, map-take-all, same_apps, apps_same}
 use Rattle.ath_terms.proofs.equality.+is_same_term.Goals as goal
 use Rattle.ath_terms.proofs.equality.+is_same_term.Goals.{then-f-g-via-then-f-g, then-f-g-via-else-f-g+then-xs-ys}
 

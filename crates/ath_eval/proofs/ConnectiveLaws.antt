@@ -1,0 +1,201 @@
+-- Applications of connectives.
+use Rattle.std.proofs.Common.{◌≡◌, ℕ, zero, suc, ◌+◌, ◌<◌, ◌≤◌, Bool, true, cond, List, [], ◌∷◌, ◌++◌, length, map, drop, get_or, Result, Ok, Err, refl, sym, ◌∙◌, ap, subst, add-one, drop-cons, length-append, arith}
+use Rattle.std.specs.List.{All}
+use Rattle.std.proofs.lemmas.List.Elements.{All-nil, All-cons, All-head, All-tail, All-weaker}
+use Rattle.ath_sorts.specs.declared.sorts.SVar.{SVar}
+use Rattle.ath_sorts.specs.declared.sorts.Sort.{Sort}
+use Rattle.ath_sorts.specs.Signature.{Signature}
+use Rattle.ath_sorts.proofs.Bools.{and_parts}
+use Rattle.ath_syntax.specs.declared.place.Pos.{Pos}
+use Rattle.ath_terms.specs.declared.fresh.Fresh.{Fresh}
+use Rattle.ath_terms.specs.declared.measure.BuildError.{BuildError}
+use Rattle.ath_terms.specs.declared.measure.BuildError.TheVariants.{Memory}
+use Rattle.ath_terms.specs.declared.node.Conn.{Conn}
+use Rattle.ath_terms.specs.declared.node.Conn.TheVariants.{Not, And, Or, If, Iff}
+use Rattle.ath_terms.specs.declared.node.SentId.{SentId}
+use Rattle.ath_terms.specs.declared.node.TermId.{TermId}
+use Rattle.ath_terms.specs.Construction.{MatchAtom, MatchSent, MatchCounted, MatchConnective, connected, grouped, takes, connective_plan, sent_measure}
+use Rattle.ath_terms.specs.Measure.{IsSmall}
+use Rattle.ath_terms.specs.Tree.{Sent, atom, equal, negated, joined, bound}
+use Rattle.ath_terms.specs.Trees.{Trees, term_at, sent_at, Grows}
+use Rattle.ath_terms.specs.Under.{sent_under, has_no_binder}
+use Rattle.ath_terms.proofs.ValidSorts.{both_true}
+use Rattle.ath_env.specs.declared.value.Value as value
+use Rattle.ath_env.specs.declared.value.Value.TheVariants as code
+use Rattle.ath_env.specs.Values.{value_at}
+use Rattle.ath_eval.specs.declared.kinds.Part.{Part as Piece}
+use Rattle.ath_eval.specs.declared.kinds.Part.TheVariants as piece
+use Rattle.ath_eval.specs.declared.world.Outcome as outcome
+use Rattle.ath_eval.specs.Applying.{Kinds, kinds_of, Part, part_of, term_part, sentence_part, sentence_made, and_sentence, sentences_made, connective_of, connective_to, connective_applied, gives_sentence}
+use Rattle.ath_eval.specs.Arguments.{IsGoodPiece, values_at, piece_tree}
+use Rattle.ath_eval.specs.Building.{Built, builds, refuses, made_atom, made_connective, constructed, why_unbuilt, IsErrorIn, IsRefused, IsSentBuilt, IsSentIn, AreSentsIn}
+use Rattle.ath_eval.specs.Outcomes.{Outcome, fails}
+use Rattle.ath_eval.specs.World.{IsSteady}
+use Rattle.ath_eval.proofs.Arguments.{good_grows}
+use Rattle.ath_eval.proofs.Constructions.{atom_built, sent_built}
+use Rattle.ath_eval.proofs.KindLaws.{length_map}
+
+-- ---- one part
+pub atom_part : (sig : Signature) (s u : Trees) (part : Piece) (t : TermId) (r : Result SentId BuildError) → Grows s u → part ≡ piece.Term t → IsGoodPiece s part → MatchAtom sig u t (term_at s.terms t.0) r → IsSentBuilt u (sentence_made sig (piece_tree s part)) r
+atom_part sig s u part t r g e h m =
+    let k : IsGoodPiece s (piece.Term t) = subst (λ (p : Piece). IsGoodPiece s p) e h in
+    let b : IsSentBuilt u (made_atom sig (term_at s.terms t.0)) r = atom_built sig u t (term_at s.terms t.0) (omega (arith, g.terms, k.0)) (g.same_terms t.0 k.0) r m in
+    subst (λ (p : Piece). IsSentBuilt u (sentence_made sig (piece_tree s p)) r) (sym e) b
+
+-- ---- parts one by one
+abbrev pub with_front : List Sent → Built (List Sent) → Built (List Sent)
+with_front ps (builds qs) = builds (ps ++ qs)
+with_front ps (refuses why) = refuses why
+
+front_more : (ps : List Sent) (p : Sent) (b : Built (List Sent)) → with_front ps (and_sentence (builds p) b) ≡ with_front (ps ++ p ∷ []) b
+front_more ps p (refuses why) = refl
+front_more ps p (builds qs) = ap builds (appended ps p qs)
+  where
+    appended : (ps : List Sent) (p : Sent) (qs : List Sent) → ps ++ p ∷ qs ≡ (ps ++ p ∷ []) ++ qs
+    appended [] p qs = refl
+    appended (q ∷ ps) p qs = ap (λ (rs : List Sent). q ∷ rs) (appended ps p qs)
+
+pub front_none : (b : Built (List Sent)) → b ≡ with_front [] b
+front_none (builds ps) = refl
+front_none (refuses why) = refl
+
+abbrev pub trees_of : Trees → List SentId → List Sent
+trees_of s ids = map (λ p. sent_at s.sents p.0) ids
+
+trees_push : (s : Trees) (ids : List SentId) (p : SentId) → trees_of s (ids ++ p ∷ []) ≡ trees_of s ids ++ sent_at s.sents p.0 ∷ []
+trees_push s [] p = refl
+trees_push s (q ∷ ids) p = ap (λ (rs : List Sent). sent_at s.sents q.0 ∷ rs) (trees_push s ids p)
+
+module _ (s t : Trees) (g : Grows s t) where
+  sent_in_grows : (p : SentId) → IsSentIn s p → IsSentIn t p
+  sent_in_grows p h =
+      let e : sent_at s.sents p.0 ≡ sent_at t.sents p.0 = sym (g.same_sents p.0 h.0) in
+      (omega (arith, g.sents, h.0), subst (λ (x : Sent). IsSmall x) e h.1, subst (λ (x : Sent). has_no_binder x ≡ true) e h.2)
+
+  pub sents_in_grow : (ids : List SentId) → All (IsSentIn s) ids → All (IsSentIn t) ids
+  sents_in_grow ids h = All-weaker (IsSentIn s) (IsSentIn t) sent_in_grows ids h
+
+  trees_grow : (ids : List SentId) → All (IsSentIn s) ids → trees_of t ids ≡ trees_of s ids
+  trees_grow [] h = refl
+  trees_grow (p ∷ ids) h =
+      let a = All-head (IsSentIn s) p ids h in
+      let b = trees_grow ids (All-tail (IsSentIn s) p ids h) in
+      λ i. g.same_sents p.0 a.0 i ∷ b i
+
+  piece_grows : (p : Piece) → IsGoodPiece s p → piece_tree t p ≡ piece_tree s p
+  piece_grows (piece.Term i) h = ap term_part (g.same_terms i.0 h.0)
+  piece_grows (piece.Sent i) h = ap sentence_part (g.same_sents i.0 h.0)
+
+  pub good_piece_grows : (p : Piece) → IsGoodPiece s p → IsGoodPiece t p
+  good_piece_grows (piece.Term i) h = good_grows s t g (code.Term i) h
+  good_piece_grows (piece.Sent i) h = good_grows s t g (code.Sent i) h
+
+-- a part after others, whose sentences are known: s is the store at first, t that before the part, and u that after it
+module _ (sig : Signature) (s t u : Trees) (g : Grows s t) (k : Grows t u) (parts : List Piece) (i : ℕ) (d : Piece) (lt : i < length parts) (good : All (IsGoodPiece s) parts) (ids : List SentId) (so_far : All (IsSentIn t) ids) (whole : Built (List Sent)) (inv : whole ≡ with_front (trees_of t ids) (sentences_made sig (map (piece_tree s) (drop i parts)))) where
+  at_here : whole ≡ with_front (trees_of t ids) (and_sentence (sentence_made sig (piece_tree t (get_or parts i d))) (sentences_made sig (map (piece_tree s) (drop (i + 1) parts))))
+  at_here =
+      let e : drop i parts ≡ get_or parts i d ∷ drop (i + 1) parts = rw add-one (drop-cons parts i d lt) in
+      inv ∙ ap (λ (ps : List Piece). with_front (trees_of t ids) (sentences_made sig (map (piece_tree s) ps))) e
+      ∙ ap (λ (x : Part). with_front (trees_of t ids) (and_sentence (sentence_made sig x) (sentences_made sig (map (piece_tree s) (drop (i + 1) parts))))) (sym (piece_grows s t g (get_or parts i d) (good i d lt)))
+
+  pub part_next : (p : SentId) → IsSentBuilt u (sentence_made sig (piece_tree t (get_or parts i d))) (Ok p) → (whole ≡ with_front (trees_of u (ids ++ p ∷ [])) (sentences_made sig (map (piece_tree s) (drop (i + 1) parts)))) × IsSentIn u p
+  part_next p (x, b, is, small, free) =
+      let e : x ≡ sent_at u.sents p.0 = sym is.1 in
+      let f : trees_of t ids ++ x ∷ [] ≡ trees_of u (ids ++ p ∷ []) = (λ j. sym (trees_grow t u k ids so_far) j ++ e j ∷ []) ∙ sym (trees_push u ids p) in (
+        at_here
+            ∙ ap (λ (y : Built Sent). with_front (trees_of t ids) (and_sentence y (sentences_made sig (map (piece_tree s) (drop (i + 1) parts))))) b
+            ∙ front_more (trees_of t ids) x (sentences_made sig (map (piece_tree s) (drop (i + 1) parts)))
+            ∙ ap (λ (ps : List Sent). with_front ps (sentences_made sig (map (piece_tree s) (drop (i + 1) parts)))) f,
+        (is.0, subst (λ (y : Sent). IsSmall y) e small, subst (λ (y : Sent). has_no_binder y ≡ true) e free),
+      )
+
+  pub part_refused : (e : BuildError) → IsSentBuilt u (sentence_made sig (piece_tree t (get_or parts i d))) (Err e) → IsRefused u whole e
+  part_refused e h n =
+      (at_here ∙ ap (λ (y : Built Sent). with_front (trees_of t ids) (and_sentence y (sentences_made sig (map (piece_tree s) (drop (i + 1) parts))))) (h n).0, (h n).1)
+
+pub length_push : (ids : List SentId) (p : SentId) (n : ℕ) → length ids ≡ n → length (ids ++ p ∷ []) ≡ n + 1
+length_push ids p n e = omega (arith, length-append ids (p ∷ []), e)
+
+-- a push that ends well
+pub pushed_items : (b : Bool) (new old : List SentId) (p : SentId) → b ≡ true → new ≡ cond b (old ++ p ∷ []) old → new ≡ old ++ p ∷ []
+pushed_items b new old p e h = h ∙ ap (λ (c : Bool). cond c (old ++ p ∷ []) old) e
+
+drop_all : (parts : List Piece) (n : ℕ) → length parts ≤ n → drop n parts ≡ []
+drop_all [] zero h = refl
+drop_all [] (suc n) h = refl
+drop_all (p ∷ parts) zero h = absurd (omega arith)
+drop_all (p ∷ parts) (suc n) h = drop_all parts n (omega arith)
+
+pub parts_done : (sig : Signature) (s t : Trees) (parts : List Piece) (n : ℕ) (ids : List SentId) (whole : Built (List Sent)) → length parts ≤ n → whole ≡ with_front (trees_of t ids) (sentences_made sig (map (piece_tree s) (drop n parts))) → All (IsSentIn t) ids → AreSentsIn t whole ids
+parts_done sig s t parts n ids whole le inv h =
+    (inv ∙ ap (λ (ps : List Piece). with_front (trees_of t ids) (sentences_made sig (map (piece_tree s) ps))) (drop_all parts n le) ∙ ap builds (no_more (trees_of t ids)), h)
+  where
+    no_more : (ps : List Sent) → ps ++ [] ≡ ps
+    no_more [] = refl
+    no_more (p ∷ ps) = ap (λ (qs : List Sent). p ∷ qs) (no_more ps)
+
+module _ (s : Trees) (ids : List SentId) (h : All (IsSentIn s) ids) where
+  pub sents_inside : All (λ (p : SentId). p.0 < length s.sents) ids
+  sents_inside = All-weaker (IsSentIn s) (λ (p : SentId). p.0 < length s.sents) (λ p k. k.0) ids h
+
+  pub sents_small : All (λ (p : SentId). IsSmall (sent_at s.sents p.0)) ids
+  sents_small = All-weaker (IsSentIn s) (λ (p : SentId). IsSmall (sent_at s.sents p.0)) (λ p k. k.1) ids h
+
+  pub sents_free : All (λ (p : SentId). has_no_binder (sent_at s.sents p.0) ≡ true) ids
+  sents_free = All-weaker (IsSentIn s) (λ (p : SentId). has_no_binder (sent_at s.sents p.0) ≡ true) (λ p k. k.2) ids h
+
+-- ---- the connective
+free_under : (f : SVar → Sort) (p : Sent) → has_no_binder p ≡ true → has_no_binder (sent_under f p) ≡ true
+free_under f (atom t) h = refl
+free_under f (equal x y) h = refl
+free_under f (negated p) h = free_under f p h
+free_under f (joined c p q) h =
+    let k = and_parts (has_no_binder p) (has_no_binder q) h in
+    both_true (has_no_binder (sent_under f p)) (has_no_binder (sent_under f q)) (free_under f p k.0) (free_under f q k.1)
+free_under f (bound b v p) h = absurd (cc)
+
+abbrev IsFree : Sent → Type 0
+IsFree p = has_no_binder p ≡ true
+
+free_grouped : (c : Conn) (ps : List Sent) → All IsFree ps → IsFree (grouped c ps)
+free_grouped c [] h = refl
+free_grouped c (p ∷ []) h = All-head IsFree p [] h
+free_grouped c (p ∷ q ∷ ps) h = both_true (has_no_binder p) (has_no_binder (grouped c (q ∷ ps))) (All-head IsFree p (q ∷ ps) h) (free_grouped c (q ∷ ps) (All-tail IsFree p (q ∷ ps) h))
+
+-- parts without quantifiers make a sentence without them
+connected_free : (c : Conn) (ps : List Sent) → All IsFree ps → IsFree (connected c ps)
+connected_free Not [] h = refl
+connected_free Not (p ∷ ps) h = All-head IsFree p ps h
+connected_free And ps h = free_grouped And ps h
+connected_free Or ps h = free_grouped Or ps h
+connected_free If ps h = free_grouped If ps h
+connected_free Iff ps h = free_grouped Iff ps h
+
+free_trees : (s : Trees) (ids : List SentId) → All (IsSentIn s) ids → All IsFree (trees_of s ids)
+free_trees s [] h = All-nil IsFree
+free_trees s (p ∷ ids) h = All-cons IsFree (sent_at s.sents p.0) (trees_of s ids) (All-head (IsSentIn s) p ids h).2 (free_trees s ids (All-tail (IsSentIn s) p ids h))
+
+module _ (sig : Signature) (c : Conn) (at : Pos) (o : outcome.Outcome) (whole : Built (List Sent)) where
+  pub connective_made : (t u : Trees) (ids : List SentId) (n : ℕ) (r : Result SentId BuildError) → takes c n ≡ true → length ids ≡ n → AreSentsIn t whole ids
+      → MatchConnective sig u c (trees_of t ids) r
+      → ((b : Built Sent) → IsSentBuilt u b r → IsSteady u o (gives_sentence b at))
+      → IsSteady u o (gives_sentence (connective_of sig c whole) at)
+  connective_made t u ids n r many e h m f =
+      let ps = trees_of t ids in
+      let l : length ps ≡ n = length_map (λ (p : SentId). sent_at t.sents p.0) ids ∙ e in
+      let enough : takes c (length ps) ≡ true = subst (λ (k : ℕ). takes c k ≡ true) (sym l) many in
+      let made : MatchSent sig u (connective_plan ps (connected c ps)) r = subst (λ (b : Bool). MatchCounted sig u c ps b r) enough m in
+      let b = sent_built sig u (connective_plan ps (connected c ps)) r (λ v. free_under v (connected c ps) (connected_free c ps (free_trees t ids h.1))) made in
+      let q : made_connective sig c ps ≡ constructed (connective_plan ps (connected c ps)) (sent_measure sig) = rw enough refl in
+      subst (λ (x : Built Sent). IsSteady u o (gives_sentence x at)) (sym (ap (connective_of sig c) h.0 ∙ q)) (f (constructed (connective_plan ps (connected c ps)) (sent_measure sig)) b)
+
+  pub connective_refused : (u : Trees) (e : BuildError) → IsRefused u whole e → (e ≡ Memory → ⊥) → (IsErrorIn u e → IsSteady u o (fails at (why_unbuilt u e))) → IsSteady u o (gives_sentence (connective_of sig c whole) at)
+  connective_refused u e h n f = subst (λ (x : Built (List Sent)). IsSteady u o (gives_sentence (connective_of sig c x) at)) (sym (h n).0) (f (h n).1)
+
+-- ---- its arguments
+module _ (sig : Signature) (c : Conn) (s u : Trees) (vs : List value.Value) (at : Pos) (o : outcome.Outcome) (many : takes c (length vs) ≡ true) where
+  pub connective_is : (k : Kinds Part) → kinds_of part_of 1 (values_at s vs) ≡ k → IsSteady u o (connective_to sig c k at) → IsSteady u o (connective_applied sig c (values_at s vs) at)
+  connective_is k e h =
+      let t : takes c (length (values_at s vs)) ≡ true = ap (takes c) (length_map (value_at s) vs) ∙ many in
+      let f : connective_applied sig c (values_at s vs) ≡ connective_to sig c k = rw t (ap (connective_to sig c) e) in
+      subst (λ (f : Pos → ℕ → Fresh → Outcome). IsSteady u o (f at)) (sym f) h

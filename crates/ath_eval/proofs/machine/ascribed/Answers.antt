@@ -1,0 +1,10 @@
+use Rattle.ath_eval.proofs.Ascriptions.{ascribed_here, ascribed_elsewhere}
+use Rattle.ath_eval.proofs.machine.ascribed.Goals as goal
+
+pub returns-in_ok-outcome-in-Ascribe-clause-outcome : goal.returns-in_ok-outcome-in-Ascribe-clause-outcome
+returns-in_ok-outcome-in-Ascribe-clause-outcome c = λ d p x text same isp. let a = c.args in let n = c.node-node.result.now in let o = c.in_ok-outcome-in-Ascribe in let k = c.in-Ascribe in
+    ascribed_here a.set.now.phrases.now d a.phrase n p x text isp c.node-node.ensures.node k.field-0 k.text k.is c.ascribe.new.store o.outcome _ (o.ensures.outcome d same)
+
+pub returns-in_default : goal.returns-in_default
+returns-in_default c = let a = c.args in let n = c.node-node.result.now in let q = c.requires.phrase in
+    ascribed_elsewhere a.set.now.phrases.now a.phrase n q.0 q.1 q.2 q.3 c.node-node.ensures.node c.in_default.not-Ascribe

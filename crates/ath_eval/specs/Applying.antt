@@ -1,0 +1,145 @@
+-- Applications to values: of a declared symbol, of `=`, and of a connective. Refusals come in this order: the number of
+-- arguments; the first argument of another kind; what the construction refuses.
+use Rattle.std.specs.Prelude.{ℕ, suc, ◌+◌, ◌==◌, List, [], ◌∷◌, length, Option, Some, None, if◌then◌else◌}
+use Rattle.ath_sorts.specs.declared.sorts.Sym.{Sym}
+use Rattle.ath_sorts.specs.declared.signature.Symbol.{Symbol}
+use Rattle.ath_sorts.specs.Signature.{Signature, symbol_of}
+use Rattle.ath_syntax.specs.declared.place.Pos.{Pos}
+use Rattle.ath_terms.specs.declared.fresh.Fresh.{Fresh}
+use Rattle.ath_terms.specs.declared.node.Conn.{Conn}
+use Rattle.ath_terms.specs.Tree.{Term, Sent}
+use Rattle.ath_terms.specs.SortsIn.{sort_in}
+use Rattle.ath_terms.specs.Construction.{wanted, takes}
+use Rattle.ath_env.specs.Values.{Value, a_term, a_sentence, a_symbol, a_connective, a_quantifier, a_back, a_method, term_of}
+use Rattle.ath_print.specs.declared.fault.FaultKind.TheVariants.{ArgCount, WrongKind, NotApplicable, NotBuilt}
+use Rattle.ath_print.specs.Events.{number_named}
+use Rattle.ath_eval.specs.Outcomes.{Context, Outcome, gives, fails, refusal}
+use Rattle.ath_eval.specs.Building.{Built, builds, refuses, made_app, made_equation, made_atom, made_connective}
+
+-- this many arguments were wanted, and that many were given
+abbrev pub miscounted : ℕ → List Value → Pos → ℕ → Fresh → Outcome
+miscounted want vs at = fails at (refusal ArgCount (number_named want ∷ number_named (length vs) ∷ []))
+
+abbrev pub wrong_kind : ℕ → Pos → ℕ → Fresh → Outcome
+wrong_kind i at = fails at (refusal WrongKind (number_named i ∷ []))
+
+-- a term that is built, with its sort
+abbrev pub gives_term : Signature → Built Term → Pos → ℕ → Fresh → Outcome
+gives_term sig (builds t) at = gives (a_term t (sort_in sig t))
+gives_term sig (refuses why) at = fails at why
+
+abbrev pub gives_sentence : Built Sent → Pos → ℕ → Fresh → Outcome
+gives_sentence (builds p) at = gives (a_sentence p)
+gives_sentence (refuses why) at = fails at why
+
+-- what the values are, or the number of the first that is of another kind
+pub data Kinds (T : Type 0) : Type 0 where
+  all_are : List T → Kinds T
+  wrong_at : ℕ → Kinds T
+
+abbrev pub and_kind : {T : Type 0} → ℕ → Option T → Kinds T → Kinds T
+and_kind i None others = wrong_at i
+and_kind i (Some x) (all_are xs) = all_are (x ∷ xs)
+and_kind i (Some x) (wrong_at j) = wrong_at j
+
+abbrev pub kinds_of : {T : Type 0} → (Value → Option T) → ℕ → List Value → Kinds T
+kinds_of f i [] = all_are []
+kinds_of f i (v ∷ vs) = and_kind i (f v) (kinds_of f (suc i) vs)
+
+-- ---- a declared symbol
+-- the counters after a symbol's parameters have each taken a made sort variable
+abbrev pub after_params : Symbol → Fresh → Fresh
+after_params d fresh = record fresh { sort = fresh.sort + length d.params }
+
+abbrev pub symbol_to : Signature → Symbol → Kinds Term → Pos → ℕ → Fresh → Outcome
+symbol_to sig d (wrong_at i) at fuel fresh = wrong_kind i at fuel fresh
+symbol_to sig d (all_are ts) at fuel fresh = gives_term sig (made_app sig fresh.sort d ts) at fuel (after_params d fresh)
+
+abbrev pub symbol_applied : Signature → Symbol → List Value → Pos → ℕ → Fresh → Outcome
+symbol_applied sig d vs =
+    if length d.args == length vs
+    then symbol_to sig d (kinds_of term_of 1 vs)
+    else miscounted (length d.args) vs
+
+-- ---- an equation
+abbrev pub equation_of : Signature → List Term → Pos → ℕ → Fresh → Outcome
+equation_of sig (s ∷ t ∷ []) = gives_sentence (made_equation sig s t)
+equation_of sig ts = λ at. fails at (refusal NotBuilt [])
+
+abbrev pub equation_to : Signature → Kinds Term → Pos → ℕ → Fresh → Outcome
+equation_to sig (wrong_at i) = wrong_kind i
+equation_to sig (all_are ts) = equation_of sig ts
+
+abbrev pub equated : Signature → List Value → Pos → ℕ → Fresh → Outcome
+equated sig vs = if length vs == 2 then equation_to sig (kinds_of term_of 1 vs) else miscounted 2 vs
+
+-- ---- a connective: its parts are terms and sentences, and each term is made an atom first, from the left
+pub data Part : Type 0 where
+  term_part : Term → Part
+  sentence_part : Sent → Part
+
+abbrev pub part_of : Value → Option Part
+part_of (a_term t r) = Some (term_part t)
+part_of (a_sentence p) = Some (sentence_part p)
+part_of (a_symbol f) = None
+part_of (a_connective c) = None
+part_of (a_quantifier q) = None
+part_of a_back = None
+part_of (a_method n) = None
+
+abbrev pub sentence_made : Signature → Part → Built Sent
+sentence_made sig (term_part t) = made_atom sig t
+sentence_made sig (sentence_part p) = builds p
+
+abbrev pub and_sentence : Built Sent → Built (List Sent) → Built (List Sent)
+and_sentence (refuses why) others = refuses why
+and_sentence (builds p) (builds ps) = builds (p ∷ ps)
+and_sentence (builds p) (refuses why) = refuses why
+
+-- the first refusal is that of them all
+abbrev pub sentences_made : Signature → List Part → Built (List Sent)
+sentences_made sig [] = builds []
+sentences_made sig (x ∷ xs) = and_sentence (sentence_made sig x) (sentences_made sig xs)
+
+abbrev pub connective_of : Signature → Conn → Built (List Sent) → Built Sent
+connective_of sig c (refuses why) = refuses why
+connective_of sig c (builds ps) = made_connective sig c ps
+
+abbrev pub connective_to : Signature → Conn → Kinds Part → Pos → ℕ → Fresh → Outcome
+connective_to sig c (wrong_at i) = wrong_kind i
+connective_to sig c (all_are xs) = gives_sentence (connective_of sig c (sentences_made sig xs))
+
+abbrev pub connective_applied : Signature → Conn → List Value → Pos → ℕ → Fresh → Outcome
+connective_applied sig c vs = if takes c (length vs) then connective_to sig c (kinds_of part_of 1 vs) else miscounted (wanted c) vs
+
+-- ---- any head
+abbrev pub not_applicable : Pos → ℕ → Fresh → Outcome
+not_applicable at = fails at (refusal NotApplicable [])
+
+-- a symbol that isn't declared is `=`
+abbrev pub symbol_or_equation : Signature → Option Symbol → List Value → Pos → ℕ → Fresh → Outcome
+symbol_or_equation sig (Some d) vs = symbol_applied sig d vs
+symbol_or_equation sig None vs = equated sig vs
+
+-- a term or a sentence with no arguments is itself
+abbrev pub itself : Value → List Value → Pos → ℕ → Fresh → Outcome
+itself v [] at = gives v
+itself v (w ∷ ws) at = not_applicable at
+
+abbrev pub applied : Context → Value → List Value → Pos → ℕ → Fresh → Outcome
+applied c (a_symbol f) vs = symbol_or_equation c.signature (symbol_of c.signature f) vs
+applied c (a_connective k) vs = connective_applied c.signature k vs
+applied c (a_term t r) vs = itself (a_term t r) vs
+applied c (a_sentence p) vs = itself (a_sentence p) vs
+applied c (a_quantifier q) vs = λ at. fails at (refusal NotBuilt [])
+applied c a_back vs = not_applicable
+applied c (a_method n) vs = not_applicable
+
+-- ---- a name: a symbol without arguments is applied to none
+abbrev pub symbol_named : Signature → Sym → Option Symbol → Pos → ℕ → Fresh → Outcome
+symbol_named sig f None at = gives (a_symbol f)
+symbol_named sig f (Some d) at = if length d.args == 0 then symbol_applied sig d [] at else gives (a_symbol f)
+
+abbrev pub value_named : Context → Value → Pos → ℕ → Fresh → Outcome
+value_named c (a_symbol f) at = symbol_named c.signature f (symbol_of c.signature f) at
+value_named c v at = gives v

@@ -1,0 +1,96 @@
+-- Connectives: their measure, and what is built.
+use Rattle.std.proofs.Common.{◌≡◌, ℕ, suc, ◌<◌, ◌≤◌, ◌==◌, ◌&&◌, nat_le, Bool, true, false, List, [], ◌∷◌, length, map, refl, sym, ◌∙◌, ap, subst, arith}
+use Rattle.std.specs.Prelude.{Result, Ok, Err}
+use Rattle.std.specs.List.{All, list_all}
+use Rattle.std.proofs.lemmas.Grind.{common_steps}
+use Rattle.ath_sorts.specs.declared.sorts.SVar.{SVar}
+use Rattle.ath_sorts.specs.declared.sorts.Sort.{Sort}
+use Rattle.ath_sorts.specs.Signature.{Signature}
+use Rattle.ath_sorts.specs.Sorts.{image}
+use Rattle.ath_terms.specs.declared.node.Conn.{Conn}
+use Rattle.ath_terms.specs.declared.node.Conn.TheVariants.{Not, And, Or, If, Iff}
+use Rattle.ath_terms.specs.declared.node.SentId.{SentId}
+use Rattle.ath_terms.specs.declared.measure.BuildError.{BuildError}
+use Rattle.ath_terms.specs.Measure.{sent_size, sent_depth}
+use Rattle.ath_terms.specs.Tree.{Sent}
+use Rattle.ath_terms.specs.Trees.{Trees, sent_at, IsSent}
+use Rattle.ath_terms.specs.SortsIn.{IsSortedIn, sent_has_small_sorts}
+use Rattle.ath_terms.specs.Under.{sent_under}
+use Rattle.ath_terms.specs.Variables.{with_sents}
+use Rattle.ath_terms.specs.WellSorted.{is_valid_sort, AreWellSorted}
+use Rattle.ath_terms.specs.Construction.{takes, grouped, connected, connective_plan, variable_pairs, sent_measure, MatchSolved, MatchMeasured, MatchRefused, MatchSent}
+use Rattle.ath_terms.proofs.UnderLaws.{sent_size-under, sent_depth-under}
+use Rattle.ath_terms.proofs.UnifierValid.{unifier_valid}
+use Rattle.ath_terms.proofs.ConstructionLaws.{measured-is, refused-solve, refused-measure, within-measure, sents_vars-valid, variable_pairs-valid}
+
+abbrev pub sents_of : Trees → List SentId → List Sent
+sents_of s ids = map (λ i. sent_at s.sents i.0) ids
+
+-- a connective takes a part at least
+one_of : (n : ℕ) → (n == 1) ≡ true → n ≡ 1
+one_of n e = grind (arith, common_steps)
+
+two_of : (n : ℕ) → (n == 2) ≡ true → n ≡ 2
+two_of n e = grind (arith, common_steps)
+
+more_of : (n : ℕ) → nat_le 2 n ≡ true → 2 ≤ n
+more_of n e = grind (arith, common_steps)
+
+pub takes-some : (c : Conn) (n : ℕ) → takes c n ≡ true → 0 < n
+takes-some Not n e = let p = one_of n e in omega arith
+takes-some And n e = let p = more_of n e in omega arith
+takes-some Or n e = let p = more_of n e in omega arith
+takes-some If n e = let p = two_of n e in omega arith
+takes-some Iff n e = let p = two_of n e in omega arith
+
+and-end : (b : Bool) → (b && true) ≡ b
+and-end true = refl
+and-end false = refl
+
+module _ (sig : Signature) (f : SVar → Sort) (ss : List Sent) where
+  small-grouped : (c : Conn) (ids : List SentId) → 0 < length ids → list_all (λ i. sent_has_small_sorts sig (sent_under f (sent_at ss i.0))) ids ≡ sent_has_small_sorts sig (sent_under f (grouped c (map (λ i. sent_at ss i.0) ids)))
+  small-grouped c [] h = absurd (omega arith)
+  small-grouped c (x ∷ []) h = and-end (sent_has_small_sorts sig (sent_under f (sent_at ss x.0)))
+  small-grouped c (x ∷ y ∷ ids) h = ap (λ b. sent_has_small_sorts sig (sent_under f (sent_at ss x.0)) && b) (small-grouped c (y ∷ ids) (omega arith))
+
+  small-negated : (ids : List SentId) → length ids ≡ 1 → list_all (λ i. sent_has_small_sorts sig (sent_under f (sent_at ss i.0))) ids ≡ sent_has_small_sorts sig (sent_under f (connected Not (map (λ i. sent_at ss i.0) ids)))
+  small-negated [] h = absurd (omega arith)
+  small-negated (x ∷ []) h = and-end (sent_has_small_sorts sig (sent_under f (sent_at ss x.0)))
+  small-negated (x ∷ y ∷ ids) h = absurd (omega arith)
+
+  pub small-connected : (c : Conn) (ids : List SentId) → takes c (length ids) ≡ true → list_all (λ i. sent_has_small_sorts sig (sent_under f (sent_at ss i.0))) ids ≡ sent_has_small_sorts sig (sent_under f (connected c (map (λ i. sent_at ss i.0) ids)))
+  small-connected Not ids e = small-negated ids (one_of (length ids) e)
+  small-connected And ids e = small-grouped And ids (takes-some And (length ids) e)
+  small-connected Or ids e = small-grouped Or ids (takes-some Or (length ids) e)
+  small-connected If ids e = small-grouped If ids (takes-some If (length ids) e)
+  small-connected Iff ids e = small-grouped Iff ids (takes-some Iff (length ids) e)
+
+pub connective-measured : (sig : Signature) (f : SVar → Sort) (p : Sent) (small : Bool) (a c : ℕ) (r : Result (Unit {0}) BuildError) → small ≡ sent_has_small_sorts sig (sent_under f p) → a ≡ sent_size p → c ≡ sent_depth p → MatchMeasured (record { small = small; nodes = a; levels = c }) r → MatchMeasured (sent_measure sig (sent_under f p)) r
+connective-measured sig f p small a c r e q v h =
+    let q' = q ∙ sym (sent_size-under f p) in
+    let v' = v ∙ sym (sent_depth-under f p) in
+    measured-is (record { small = small; nodes = a; levels = c }) (sent_measure sig (sent_under f p)) r (λ i. record { small = e i; nodes = q' i; levels = v' i }) h
+
+are-well : (sig : Signature) (s : Trees) (ids : List SentId) → IsSortedIn sig s → All (λ i. i.0 < length s.sents) ids → AreWellSorted sig (sents_of s ids)
+are-well sig s [] h all = tt
+are-well sig s (i ∷ ids) h all = (h.sents i.0 (all 0 i (omega arith)), are-well sig s ids h (λ k d l. all (suc k) d (omega arith)))
+
+module _ (sig : Signature) (ps : List Sent) (whole : Sent) (pairs : List (Sort × Sort)) (are : pairs ≡ variable_pairs (with_sents [] ps)) where
+  pub connective-unsolved : (e : BuildError) → MatchSolved pairs (Err e) → MatchRefused (variable_pairs (with_sents [] ps)) (λ f. sent_measure sig (sent_under f whole)) e
+  connective-unsolved e h = refused-solve (variable_pairs (with_sents [] ps)) (λ f. sent_measure sig (sent_under f whole)) e (subst (λ (l : List (Sort × Sort)). MatchSolved l (Err e)) are h)
+
+  module _ (u : List (SVar × Sort)) (solved : MatchSolved pairs (Ok u)) where
+    solved_listed : MatchSolved (variable_pairs (with_sents [] ps)) (Ok u)
+    solved_listed = subst (λ (l : List (Sort × Sort)). MatchSolved l (Ok u)) are solved
+
+    pub connective-unmeasured : (e : BuildError) → MatchMeasured (sent_measure sig (sent_under (image u) whole)) (Err e) → MatchRefused (variable_pairs (with_sents [] ps)) (λ f. sent_measure sig (sent_under f whole)) e
+    connective-unmeasured e h = refused-measure (variable_pairs (with_sents [] ps)) (λ f. sent_measure sig (sent_under f whole)) u e solved_listed h
+
+    pub connective-built : (new : Trees) (r : SentId) (v : Unit {0}) → MatchMeasured (sent_measure sig (sent_under (image u) whole)) (Ok v) → IsSent new r.0 (sent_under (image u) whole) → MatchSent sig new (connective_plan ps whole) (Ok r)
+    connective-built new r v h is = (u, (within-measure (variable_pairs (with_sents [] ps)) (sent_measure sig (sent_under (image u) whole)) u v solved_listed h, is))
+
+    pub connective-valid : AreWellSorted sig ps → (v : SVar) → is_valid_sort sig (image u v) ≡ true
+    connective-valid w = unifier_valid sig u (variable_pairs (with_sents [] ps)) solved_listed.0 (variable_pairs-valid sig (with_sents [] ps) (sents_vars-valid sig [] ps tt w))
+
+pub parts-well : (sig : Signature) (s : Trees) (ids : List SentId) → IsSortedIn sig s → All (λ i. i.0 < length s.sents) ids → AreWellSorted sig (sents_of s ids)
+parts-well sig s ids h all = are-well sig s ids h all

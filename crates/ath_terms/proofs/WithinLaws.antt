@@ -1,0 +1,99 @@
+-- Whether the sorts of a term under a substitution are within the limits, as its walk finds it.
+use Rattle.std.proofs.Common.{◌≡◌, ℕ, zero, suc, ◌+◌, ◌<◌, ◌≤◌, ◌&&◌, Bool, true, false, List, [], ◌∷◌, length, map, take, get_or, refl, sym, ◌∙◌, ap, arith}
+use Rattle.std.specs.List.{list_all}
+use Rattle.std.proofs.lemmas.List.{take_all}
+use Rattle.ath_sorts.specs.declared.sorts.Sym.{Sym}
+use Rattle.ath_sorts.specs.declared.sorts.SVar.{SVar}
+use Rattle.ath_sorts.specs.declared.sorts.Sort.{Sort}
+use Rattle.ath_sorts.specs.Limits.{is_small}
+use Rattle.ath_sorts.specs.Signature.{Signature}
+use Rattle.ath_sorts.specs.Sorts.{apply_to}
+use Rattle.ath_terms.specs.declared.node.Var.{Var as Variable}
+use Rattle.ath_terms.specs.declared.node.TermId.{TermId}
+use Rattle.ath_terms.specs.declared.node.TermNode.{TermNode}
+use Rattle.ath_terms.specs.declared.node.TermNode.TheVariants.{Var, App}
+use Rattle.ath_terms.specs.Tree.{Term, var, app, listed}
+use Rattle.ath_terms.specs.Trees.{Trees, term_at, sort_at}
+use Rattle.ath_terms.specs.Nodes.{term_tree}
+use Rattle.ath_terms.specs.SortsIn.{IsSortedIn, sort_in, has_small_sorts, have_small_sorts}
+use Rattle.ath_terms.specs.Under.{term_under, terms_under}
+use Rattle.ath_terms.proofs.UnderLaws.{sort_in-under}
+
+abbrev pub terms_within : Signature → (SVar → Sort) → List Term → List TermId → Bool
+terms_within sig f ts ids = list_all (λ j. has_small_sorts sig (term_under f (term_at ts j.0))) ids
+
+pub within-listed : (sig : Signature) (f : SVar → Sort) (ts : List Term) (ids : List TermId) → have_small_sorts sig (terms_under f (listed (map (λ j. term_at ts j.0) ids))) ≡ terms_within sig f ts ids
+within-listed sig f ts [] = refl
+within-listed sig f ts (i ∷ ids) = ap (λ b. has_small_sorts sig (term_under f (term_at ts i.0)) && b) (within-listed sig f ts ids)
+
+pub all-map : {A B : Type 0} (p : B → Bool) (f : A → B) (xs : List A) → list_all p (map f xs) ≡ list_all (λ x. p (f x)) xs
+all-map p f [] = refl
+all-map p f (x ∷ xs) = ap (λ b. p (f x) && b) (all-map p f xs)
+
+and-more : (a b : Bool) → a ≡ true → b ≡ true → (a && b) ≡ true
+and-more a b p q = rw (p, q) refl
+
+and-first : (a b : Bool) → (a && b) ≡ true → a ≡ true
+and-first true b e = refl
+and-first false b e = e
+
+and-rest : (a b : Bool) → (a && b) ≡ true → b ≡ true
+and-rest true b e = e
+and-rest false b e = absurd (cc)
+
+and-false : (a b : Bool) → b ≡ false → (a && b) ≡ false
+and-false true b e = e
+and-false false b e = refl
+
+-- one more
+pub within-next : (p : TermId → Bool) (xs : List TermId) (i : ℕ) (d : TermId) → i < length xs → list_all p (take i xs) ≡ true → p (get_or xs i d) ≡ true → list_all p (take (i + 1) xs) ≡ true
+within-next p [] i d h e f = absurd (omega arith)
+within-next p (x ∷ xs) zero d h e f = and-more (p x) true f refl
+within-next p (x ∷ xs) (suc i) d h e f =
+    let s : suc i + 1 ≡ suc (i + 1) = omega arith in
+    rw s (and-more (p x) (list_all p (take (i + 1) xs)) (and-first (p x) (list_all p (take i xs)) e) (within-next p xs i d (omega arith) (and-rest (p x) (list_all p (take i xs)) e) f))
+
+-- one that isn't
+pub within-fails : (p : TermId → Bool) (xs : List TermId) (i : ℕ) (d : TermId) → i < length xs → p (get_or xs i d) ≡ false → list_all p xs ≡ false
+within-fails p [] i d h f = absurd (omega arith)
+within-fails p (x ∷ xs) zero d h f = rw f refl
+within-fails p (x ∷ xs) (suc i) d h f = and-false (p x) (list_all p xs) (within-fails p xs i d (omega arith) f)
+
+small-first : (sig : Signature) (t : Term) → is_small (sort_in sig t) ≡ false → has_small_sorts sig t ≡ false
+small-first sig (var v) e = e
+small-first sig (app g sorts args) e = ap (λ b. b && (list_all is_small sorts && have_small_sorts sig args)) e
+
+module _ (sig : Signature) (s : Trees) (f : SVar → Sort) (sorted : IsSortedIn sig s) (t : ℕ) (inside : t < length s.terms) where
+  own : is_small (sort_in sig (term_under f (term_at s.terms t))) ≡ is_small (apply_to f (sort_at s.sorts t))
+  own = ap is_small (sort_in-under sig f (term_at s.terms t) (sort_at s.sorts t) sorted.valid (sorted.terms t inside))
+
+  pub within-none : (b : Bool) (r : Sort) → b ≡ is_small (apply_to f r) → r ≡ sort_at s.sorts t → b ≡ false → false ≡ has_small_sorts sig (term_under f (term_at s.terms t))
+  within-none b r e q z = sym (small-first sig (term_under f (term_at s.terms t)) (own ∙ ap (λ x. is_small (apply_to f x)) (sym q) ∙ sym e ∙ z))
+
+  module _ (n : TermNode) (tree : term_tree s.terms n ≡ term_at s.terms t) (b : Bool) (r : Sort) (e : b ≡ is_small (apply_to f r)) (q : r ≡ sort_at s.sorts t) (first : b ≡ true) where
+    own_true : is_small (sort_in sig (term_under f (term_at s.terms t))) ≡ true
+    own_true = own ∙ ap (λ x. is_small (apply_to f x)) (sym q) ∙ sym e ∙ first
+
+    pub within-var : (v : Variable) → n ≡ Var v → true ≡ has_small_sorts sig (term_under f (term_at s.terms t))
+    within-var v is = let p = rw is at tree in sym own_true ∙ (λ i. is_small (sort_in sig (term_under f (sym p i)))) ∙ (λ i. has_small_sorts sig (term_under f (p i)))
+
+    module _ (g : Sym) (sorts : List Sort) (xs ids : List TermId) (is : n ≡ App g sorts ids) (same : xs ≡ ids) where
+      parts : has_small_sorts sig (term_under f (term_at s.terms t)) ≡ (list_all (λ r. is_small (apply_to f r)) sorts && terms_within sig f s.terms xs)
+      parts =
+          let p = rw is at tree in
+          let o : is_small (sort_in sig (term_under f (app g sorts (listed (map (λ j. term_at s.terms j.0) ids))))) ≡ true = (λ i. is_small (sort_in sig (term_under f (p i)))) ∙ own_true in
+          (λ i. has_small_sorts sig (term_under f (sym p i)))
+          ∙ (λ i. o i && (all-map is_small (apply_to f) sorts i && (within-listed sig f s.terms ids ∙ ap (terms_within sig f s.terms) (sym same)) i))
+
+      module _ (c : Bool) (these : List Sort) (d : c ≡ list_all (λ r. is_small (apply_to f r)) these) (as_they_are : these ≡ sorts) where
+        sorts_are : list_all (λ r. is_small (apply_to f r)) sorts ≡ c
+        sorts_are = ap (list_all (λ r. is_small (apply_to f r))) (sym as_they_are) ∙ sym d
+
+        pub within-sorts : c ≡ false → false ≡ has_small_sorts sig (term_under f (term_at s.terms t))
+        within-sorts z = sym (parts ∙ ap (λ b. b && terms_within sig f s.terms xs) (sorts_are ∙ z))
+
+        pub within-parts : (x : Bool) → c ≡ true → terms_within sig f s.terms xs ≡ x → x ≡ has_small_sorts sig (term_under f (term_at s.terms t))
+        within-parts x z k = sym (parts ∙ ap (λ b. b && terms_within sig f s.terms xs) (sorts_are ∙ z) ∙ k)
+
+pub within-all : (sig : Signature) (f : SVar → Sort) (ts : List Term) (xs : List TermId) (i : ℕ) → length xs ≤ i → terms_within sig f ts (take i xs) ≡ true → terms_within sig f ts xs ≡ true
+within-all sig f ts xs i h e = ap (terms_within sig f ts) (sym (take_all i xs h)) ∙ e

@@ -1,0 +1,8 @@
+use Rattle.std.proofs.Common.{◌≡◌, drop}
+use Rattle.std.specs.List.{list_all}
+use Rattle.ath_sorts.specs.Limits.{is_small}
+use Rattle.ath_sorts.specs.Sorts.{image, apply_to}
+use Rattle.ath_terms.proofs.construction.apply.are_sorts_within.Given as goal
+
+abbrev pub invariant-loop-sort : goal.invariant-loop-sort
+invariant-loop-sort l = list_all (λ s. is_small (apply_to (image l.subst) s)) l.sorts ≡ list_all (λ s. is_small (apply_to (image l.subst) s)) (drop l.sort-index l.sorts)

@@ -1,0 +1,9 @@
+use Rattle.std.proofs.Common.{map}
+use Rattle.ath_terms.specs.Tree.{app, listed}
+use Rattle.ath_terms.specs.Trees.{term_at}
+use Rattle.ath_terms.proofs.ApplicationLaws.{app-has}
+use Rattle.ath_terms.proofs.construction.plain.add_plain.Goals as goal
+
+pub returns-clause-sorted : goal.returns-clause-sorted
+returns-clause-sorted c = λ sig h has. c.in_ok-term.ensures.sorted sig h
+    (app-has sig _ _ _ _ (λ i. app c.args.f (c.in_ok-copies.ensures i) (listed (map (λ j. term_at c.args.store.now.terms j.0) (c.in_ok-ids.ensures i)))) c.in_ok-whole.ensures has)

@@ -1,0 +1,30 @@
+-- Plain building: the answer is the id of the tree where it is within the limits; else the number of its nodes, or of its
+-- levels, is told.
+use Rattle.std.specs.Prelude.{◌≡◌, ◌<◌, ◌≤◌, Result, Ok, Err}
+use Rattle.ath_sorts.specs.declared.sorts.Sort.{Sort}
+use Rattle.ath_terms.specs.declared.node.TermId.{TermId}
+use Rattle.ath_terms.specs.declared.measure.BuildError.{BuildError}
+use Rattle.ath_terms.specs.declared.measure.BuildError.TheVariants.{SortClash, ArgCount, NotBoolean, TooLarge, TooDeep, SortTooLarge, Memory}
+use Rattle.ath_terms.specs.Tree.{Term, atom}
+use Rattle.std.specs.List.{All}
+use Rattle.ath_terms.specs.declared.node.SentNode.{SentNode}
+use Rattle.ath_terms.specs.declared.node.SentNode.TheVariants as node
+use Rattle.ath_terms.specs.Trees.{Trees, term_at, sent_at, IsTermOf}
+use Rattle.ath_terms.specs.Measure.{term_size, term_depth, most_nodes, most_levels, IsSmall}
+
+abbrev pub IsPlainTerm : Trees → Term → Sort → Result TermId BuildError → Type 0
+IsPlainTerm s x r (Ok t) = IsTermOf s t.0 x r × IsSmall (atom x)
+IsPlainTerm s x r (Err (TooLarge n)) = (most_nodes < term_size x) × (n ≡ term_size x)
+IsPlainTerm s x r (Err (TooDeep n)) = (term_size x ≤ most_nodes) × (most_levels < term_depth x) × (n ≡ term_depth x)
+IsPlainTerm s x r (Err Memory) = Unit {0}
+IsPlainTerm s x r (Err (SortClash a b)) = ⊥
+IsPlainTerm s x r (Err (ArgCount m n)) = ⊥
+IsPlainTerm s x r (Err (NotBoolean t)) = ⊥
+IsPlainTerm s x r (Err SortTooLarge) = ⊥
+
+-- the parts of a node are within the limits
+abbrev pub HasSmallParts : Trees → SentNode → Type 0
+HasSmallParts s (node.Atom t) = IsSmall (atom (term_at s.terms t.0))
+HasSmallParts s (node.Eq t u) = IsSmall (atom (term_at s.terms t.0)) × IsSmall (atom (term_at s.terms u.0))
+HasSmallParts s (node.Conn c ids) = All (λ i. IsSmall (sent_at s.sents i.0)) ids
+HasSmallParts s (node.Quant k v p) = IsSmall (sent_at s.sents p.0)

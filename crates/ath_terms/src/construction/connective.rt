@@ -1,0 +1,277 @@
+// Connectives.
+
+ghost use Rattle.std.specs.Prelude.{◌≡◌, ◌<◌, ◌≤◌, true, length, map, IfOk, []};
+ghost use Rattle.std.specs.List.{All, list_all};
+ghost use Rattle.ath_sorts.specs.Signature.{Signature};
+ghost use Rattle.ath_sorts.specs.Sorts.{image};
+ghost use Rattle.ath_sorts.specs.declared.sorts.SVar.{SVar};
+ghost use Rattle.ath_terms.specs.declared.node.Conn.{Conn};
+ghost use Rattle.ath_terms.specs.declared.node.Conn.TheVariants.{Not};
+ghost use Rattle.ath_terms.specs.Trees.{sent_at, Grows, IsSent};
+ghost use Rattle.ath_terms.specs.Tree.{negated};
+ghost use Rattle.ath_terms.specs.Measure.{IsSmall, sent_size, sent_depth};
+ghost use Rattle.ath_terms.specs.SortsIn.{IsSortedIn, sent_has_small_sorts};
+ghost use Rattle.ath_terms.specs.Variables.{with_sents};
+ghost use Rattle.ath_terms.specs.Under.{sent_under, has_no_binder};
+ghost use Rattle.ath_terms.specs.WellSorted.{is_valid_sort};
+ghost use Rattle.ath_terms.specs.Construction.{takes, wanted, grouped, connected, connective_plan, variable_pairs, sent_measure, MatchMeasured, MatchSent, MatchConnective};
+
+use crate::construction::limits::check_limits;
+use crate::construction::pairs::{add_variable_pairs, solve};
+use crate::construction::sentence::{is_sent_within, sent_under};
+use crate::construction::variables::add_sent_vars;
+use crate::measure::{BuildError, add_joined, sent_depth, sent_size};
+use crate::node::{Conn, SentId, SentNode, Var};
+use crate::store::Store;
+use ath_sorts::{Sort, SortSubst};
+use sqlite_items::Items;
+use std::alloc::{AllocError, Global};
+
+/// Whether the connective takes so many parts.
+fn takes(c: Conn, parts: usize) -> bool
+    ensures { result ≡ takes c parts }
+{
+    match c {
+        Conn::Not => parts == 1,
+        Conn::And => 2 <= parts,
+        Conn::Or => 2 <= parts,
+        Conn::If => parts == 2,
+        Conn::Iff => parts == 2,
+    }
+}
+
+/// The number of parts that is told as wanted.
+fn wanted(c: Conn) -> usize
+    ensures { result ≡ wanted c }
+{
+    match c {
+        Conn::Not => 1,
+        Conn::And => 2,
+        Conn::Or => 2,
+        Conn::If => 2,
+        Conn::Iff => 2,
+    }
+}
+
+fn list_vars(alloc: Global, store: &Store, parts: &[SentId]) -> Result<Vec<Var>, AllocError>
+    requires { All (λ i. i.0 < length store.now.sents) parts.now }
+    ensures { IfOk result (λ found. found.items ≡ with_sents [] (map (λ i. sent_at store.now.sents i.0) parts.now)) }
+{
+    let mut found = Vec::new(alloc);
+    for i in 0..parts.len() {
+        add_sent_vars(alloc, store, &mut found, parts[i])?;
+    }
+    Ok(found)
+}
+
+fn connective_pairs(
+    alloc: Global,
+    store: &Store,
+    parts: &[SentId],
+) -> Result<Vec<(Sort, Sort)>, AllocError>
+    requires { All (λ i. i.0 < length store.now.sents) parts.now }
+    ensures { IfOk result (λ pairs. pairs.items ≡ variable_pairs (with_sents [] (map (λ i. sent_at store.now.sents i.0) parts.now))) }
+{
+    let mut pairs = Vec::new(alloc);
+    let found = list_vars(alloc, store, parts)?;
+    add_variable_pairs(alloc, &mut pairs, found.as_slice())?;
+    Ok(pairs)
+}
+
+fn are_sents_within(store: &Store, subst: &SortSubst, parts: &[SentId]) -> bool
+    requires { All (λ i. i.0 < length store.now.sents) parts.now }
+    ensures { (sig : Signature) → IsSortedIn sig store.now → result ≡ list_all (λ i. sent_has_small_sorts sig (sent_under (image subst.now) (sent_at store.now.sents i.0))) parts.now }
+{
+    for i in 0..parts.len() {
+        if !is_sent_within(store, subst, parts[i]) {
+            return false;
+        }
+    }
+    true
+}
+
+/// The nodes of parts that are grouped.
+fn grouped_size(store: &Store, parts: &[SentId]) -> u64
+    requires some { 0 < length parts.now }
+    requires few { length parts.now ≤ 4194304 }
+    requires inside { All (λ i. i.0 < length store.now.sents) parts.now }
+    requires small { All (λ i. IsSmall (sent_at store.now.sents i.0)) parts.now }
+    ensures { (c : Conn) → result ≡ sent_size (grouped c (map (λ i. sent_at store.now.sents i.0) parts.now)) }
+{
+    let mut nodes: u64 = 0;
+    for i in 0..parts.len() {
+        nodes += 1 + sent_size(store, parts[i]);
+    }
+    nodes - 1
+}
+
+/// The levels of parts that are grouped.
+fn grouped_depth(store: &Store, parts: &[SentId]) -> u64
+    requires some { 0 < length parts.now }
+    requires few { length parts.now ≤ 4194304 }
+    requires inside { All (λ i. i.0 < length store.now.sents) parts.now }
+    requires small { All (λ i. IsSmall (sent_at store.now.sents i.0)) parts.now }
+    ensures { (c : Conn) → result ≡ sent_depth (grouped c (map (λ i. sent_at store.now.sents i.0) parts.now)) }
+{
+    let mut i = parts.len() - 1;
+    let mut levels = sent_depth(store, parts[i]);
+    while i > 0 {
+        i -= 1;
+        levels = 1 + sent_depth(store, parts[i]).max(levels);
+    }
+    levels
+}
+
+fn connected_size(store: &Store, c: Conn, parts: &[SentId]) -> u64
+    requires count { takes c (length parts.now) ≡ true }
+    requires few { length parts.now ≤ 4194304 }
+    requires inside { All (λ i. i.0 < length store.now.sents) parts.now }
+    requires small { All (λ i. IsSmall (sent_at store.now.sents i.0)) parts.now }
+    ensures { result ≡ sent_size (connected c (map (λ i. sent_at store.now.sents i.0) parts.now)) }
+{
+    if c == Conn::Not {
+        return 1 + sent_size(store, parts[0]);
+    }
+    grouped_size(store, parts)
+}
+
+fn connected_depth(store: &Store, c: Conn, parts: &[SentId]) -> u64
+    requires count { takes c (length parts.now) ≡ true }
+    requires few { length parts.now ≤ 4194304 }
+    requires inside { All (λ i. i.0 < length store.now.sents) parts.now }
+    requires small { All (λ i. IsSmall (sent_at store.now.sents i.0)) parts.now }
+    ensures { result ≡ sent_depth (connected c (map (λ i. sent_at store.now.sents i.0) parts.now)) }
+{
+    if c == Conn::Not {
+        return 1 + sent_depth(store, parts[0]);
+    }
+    grouped_depth(store, parts)
+}
+
+fn check_connective(
+    store: &Store,
+    subst: &SortSubst,
+    c: Conn,
+    parts: &[SentId],
+) -> Result<(), BuildError>
+    requires count { takes c (length parts.now) ≡ true }
+    requires few { length parts.now ≤ 4194304 }
+    requires inside { All (λ i. i.0 < length store.now.sents) parts.now }
+    requires small { All (λ i. IsSmall (sent_at store.now.sents i.0)) parts.now }
+    ensures { (sig : Signature) → IsSortedIn sig store.now → MatchMeasured (sent_measure sig (sent_under (image subst.now) (connected c (map (λ i. sent_at store.now.sents i.0) parts.now)))) result }
+{
+    let small = are_sents_within(store, subst, parts);
+    let nodes = connected_size(store, c, parts);
+    let levels = connected_depth(store, c, parts);
+    check_limits(small, nodes, levels)
+}
+
+fn add_negated(
+    alloc: Global,
+    store: &mut Store,
+    subst: &SortSubst,
+    p: SentId,
+) -> Result<SentId, AllocError>
+    requires { p.0 < length store.old.sents }
+    ensures grows { Grows store.old store.new }
+    ensures tree { IfOk result (λ r. IsSent store.new r.0 (sent_under (image subst.now) (negated (sent_at store.old.sents p.0)))) }
+    ensures sorted { (sig : Signature) → IsSortedIn sig store.old → ((v : SVar) → is_valid_sort sig (image subst.now v) ≡ true) → IsSortedIn sig store.new }
+{
+    let part = sent_under(alloc, store, subst, p)?;
+    let mut parts = Items::new(alloc);
+    parts.push(part)?;
+    let sent = store.add_sent(SentNode::Conn(Conn::Not, parts))?;
+    Ok(sent)
+}
+
+fn add_grouped(
+    alloc: Global,
+    store: &mut Store,
+    subst: &SortSubst,
+    c: Conn,
+    parts: &[SentId],
+) -> Result<SentId, AllocError>
+    requires two { c ≡ Not → ⊥ }
+    requires some { 0 < length parts.now }
+    requires inside { All (λ i. i.0 < length store.old.sents) parts.now }
+    ensures grows { Grows store.old store.new }
+    ensures tree { IfOk result (λ r. IsSent store.new r.0 (sent_under (image subst.now) (grouped c (map (λ i. sent_at store.old.sents i.0) parts.now)))) }
+    ensures sorted { (sig : Signature) → IsSortedIn sig store.old → ((v : SVar) → is_valid_sort sig (image subst.now v) ≡ true) → IsSortedIn sig store.new }
+{
+    let mut i = parts.len() - 1;
+    let mut sent = sent_under(alloc, store, subst, parts[i])?;
+    while i > 0 {
+        i -= 1;
+        let left = sent_under(alloc, store, subst, parts[i])?;
+        sent = add_joined(alloc, store, c, left, sent)?;
+    }
+    Ok(sent)
+}
+
+fn add_connected(
+    alloc: Global,
+    store: &mut Store,
+    subst: &SortSubst,
+    c: Conn,
+    parts: &[SentId],
+) -> Result<SentId, AllocError>
+    requires count { takes c (length parts.now) ≡ true }
+    requires inside { All (λ i. i.0 < length store.old.sents) parts.now }
+    ensures grows { Grows store.old store.new }
+    ensures tree { IfOk result (λ r. IsSent store.new r.0 (sent_under (image subst.now) (connected c (map (λ i. sent_at store.old.sents i.0) parts.now)))) }
+    ensures sorted { (sig : Signature) → IsSortedIn sig store.old → ((v : SVar) → is_valid_sort sig (image subst.now v) ≡ true) → IsSortedIn sig store.new }
+{
+    if c == Conn::Not {
+        let sent = add_negated(alloc, store, subst, parts[0])?;
+        return Ok(sent);
+    }
+    let sent = add_grouped(alloc, store, subst, c, parts)?;
+    Ok(sent)
+}
+
+fn build_connective(
+    alloc: Global,
+    store: &mut Store,
+    c: Conn,
+    parts: &[SentId],
+) -> Result<SentId, BuildError>
+    requires count { takes c (length parts.now) ≡ true }
+    requires few { length parts.now ≤ 4194304 }
+    requires inside { All (λ i. i.0 < length store.old.sents) parts.now }
+    requires small { All (λ i. IsSmall (sent_at store.old.sents i.0)) parts.now }
+    ensures grows { Grows store.old store.new }
+    ensures inside { IfOk result (λ r. r.0 < length store.new.sents) }
+    ensures built { (sig : Signature) → IsSortedIn sig store.old → MatchSent sig store.new (connective_plan (map (λ i. sent_at store.old.sents i.0) parts.now) (connected c (map (λ i. sent_at store.old.sents i.0) parts.now))) result }
+    ensures sorted { (sig : Signature) → IsSortedIn sig store.old → IsSortedIn sig store.new }
+{
+    let pairs = connective_pairs(alloc, store, parts)?;
+    let subst = solve(alloc, &pairs)?;
+    check_connective(store, &subst, c, parts)?;
+    let sent = add_connected(alloc, store, &subst, c, parts)?;
+    Ok(sent)
+}
+
+impl Store {
+    /// The connective of some sentences, grouped to the right where there are more than two. The sentences hold no
+    /// quantifier: that is asked until quantifiers are built.
+    pub fn connective(
+        &mut self,
+        alloc: Global,
+        c: Conn,
+        parts: &Vec<SentId>,
+    ) -> Result<SentId, BuildError>
+        requires few { length parts.now.items ≤ 4194304 }
+        requires inside { All (λ i. i.0 < length self.old.sents) parts.now.items }
+        requires small { All (λ i. IsSmall (sent_at self.old.sents i.0)) parts.now.items }
+        requires free { All (λ i. has_no_binder (sent_at self.old.sents i.0) ≡ true) parts.now.items }
+        ensures grows { Grows self.old self.new }
+        ensures inside { IfOk result (λ r. r.0 < length self.new.sents) }
+        ensures built { (sig : Signature) → IsSortedIn sig self.old → MatchConnective sig self.new c (map (λ i. sent_at self.old.sents i.0) parts.now.items) result }
+        ensures sorted { (sig : Signature) → IsSortedIn sig self.old → IsSortedIn sig self.new }
+    {
+        if !takes(c, parts.len()) {
+            return Err(BuildError::ArgCount(wanted(c), parts.len()));
+        }
+        build_connective(alloc, self, c, parts.as_slice())
+    }
+}

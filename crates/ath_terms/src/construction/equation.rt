@@ -1,0 +1,106 @@
+// Equations.
+
+ghost use Rattle.std.specs.Prelude.{◌≡◌, ◌<◌, ◌&&◌, ◌∷◌, [], true, length, IfOk};
+ghost use Rattle.ath_sorts.specs.Signature.{Signature};
+ghost use Rattle.ath_sorts.specs.Sorts.{image, apply_to};
+ghost use Rattle.ath_sorts.specs.declared.sorts.SVar.{SVar};
+ghost use Rattle.ath_terms.specs.Tree.{atom, equal};
+ghost use Rattle.ath_terms.specs.Trees.{term_at, sort_at, Grows, IsSent};
+ghost use Rattle.ath_terms.specs.Measure.{IsSmall};
+ghost use Rattle.ath_terms.specs.SortsIn.{IsSortedIn, has_small_sorts};
+ghost use Rattle.ath_terms.specs.Variables.{with_term};
+ghost use Rattle.ath_terms.specs.Under.{term_under, sent_under};
+ghost use Rattle.ath_terms.specs.WellSorted.{is_valid_sort};
+ghost use Rattle.ath_terms.specs.Construction.{variable_pairs, sent_measure, equation_plan, MatchMeasured, MatchSent};
+
+use crate::construction::apply::{is_term_within, term_under};
+use crate::construction::limits::check_limits;
+use crate::construction::pairs::{add_pair, add_variable_pairs, solve};
+use crate::construction::variables::add_term_vars;
+use crate::measure::{BuildError, term_depth, term_size};
+use crate::node::{SentId, SentNode, TermId};
+use crate::store::Store;
+use ath_sorts::{Sort, SortSubst};
+use std::alloc::{AllocError, Global};
+
+fn equation_pairs(
+    alloc: Global,
+    store: &Store,
+    s: TermId,
+    t: TermId,
+) -> Result<Vec<(Sort, Sort)>, AllocError>
+    requires left { s.0 < length store.now.terms }
+    requires right { t.0 < length store.now.terms }
+    ensures { IfOk result (λ pairs. pairs.items ≡ (sort_at store.now.sorts s.0, sort_at store.now.sorts t.0) ∷ variable_pairs (with_term (with_term [] (term_at store.now.terms s.0)) (term_at store.now.terms t.0))) }
+{
+    let mut pairs = Vec::new(alloc);
+    add_pair(alloc, &mut pairs, store.sort_of(s), store.sort_of(t))?;
+    let mut found = Vec::new(alloc);
+    add_term_vars(alloc, store, &mut found, s)?;
+    add_term_vars(alloc, store, &mut found, t)?;
+    add_variable_pairs(alloc, &mut pairs, found.as_slice())?;
+    Ok(pairs)
+}
+
+pub(crate) fn are_both_within(store: &Store, subst: &SortSubst, s: TermId, t: TermId) -> bool
+    requires left { s.0 < length store.now.terms }
+    requires right { t.0 < length store.now.terms }
+    ensures { (sig : Signature) → IsSortedIn sig store.now → result ≡ (has_small_sorts sig (term_under (image subst.now) (term_at store.now.terms s.0)) && has_small_sorts sig (term_under (image subst.now) (term_at store.now.terms t.0))) }
+{
+    if !is_term_within(store, subst, s) {
+        return false;
+    }
+    is_term_within(store, subst, t)
+}
+
+fn check_equation(store: &Store, subst: &SortSubst, s: TermId, t: TermId) -> Result<(), BuildError>
+    requires left { s.0 < length store.now.terms }
+    requires right { t.0 < length store.now.terms }
+    requires left_small { IsSmall (atom (term_at store.now.terms s.0)) }
+    requires right_small { IsSmall (atom (term_at store.now.terms t.0)) }
+    ensures { (sig : Signature) → IsSortedIn sig store.now → MatchMeasured (sent_measure sig (sent_under (image subst.now) (equal (term_at store.now.terms s.0) (term_at store.now.terms t.0)))) result }
+{
+    let small = are_both_within(store, subst, s, t);
+    let nodes = 1 + term_size(store, s) + term_size(store, t);
+    let levels = 1 + term_depth(store, s).max(term_depth(store, t));
+    check_limits(small, nodes, levels)
+}
+
+pub(crate) fn add_equation(
+    alloc: Global,
+    store: &mut Store,
+    subst: &SortSubst,
+    s: TermId,
+    t: TermId,
+) -> Result<SentId, AllocError>
+    requires left { s.0 < length store.old.terms }
+    requires right { t.0 < length store.old.terms }
+    ensures grows { Grows store.old store.new }
+    ensures tree { IfOk result (λ p. IsSent store.new p.0 (sent_under (image subst.now) (equal (term_at store.old.terms s.0) (term_at store.old.terms t.0)))) }
+    ensures sorted { (sig : Signature) → IsSortedIn sig store.old → ((v : SVar) → is_valid_sort sig (image subst.now v) ≡ true) → apply_to (image subst.now) (sort_at store.old.sorts s.0) ≡ apply_to (image subst.now) (sort_at store.old.sorts t.0) → IsSortedIn sig store.new }
+{
+    let left = term_under(alloc, store, subst, s)?;
+    let right = term_under(alloc, store, subst, t)?;
+    let sent = store.add_sent(SentNode::Eq(left, right))?;
+    Ok(sent)
+}
+
+impl Store {
+    /// The equation of two terms, whose sorts are made one.
+    pub fn equation(&mut self, alloc: Global, s: TermId, t: TermId) -> Result<SentId, BuildError>
+        requires left { s.0 < length self.old.terms }
+        requires right { t.0 < length self.old.terms }
+        requires left_small { IsSmall (atom (term_at self.old.terms s.0)) }
+        requires right_small { IsSmall (atom (term_at self.old.terms t.0)) }
+        ensures grows { Grows self.old self.new }
+        ensures inside { IfOk result (λ r. r.0 < length self.new.sents) }
+        ensures built { (sig : Signature) → IsSortedIn sig self.old → MatchSent sig self.new (equation_plan sig (term_at self.old.terms s.0) (term_at self.old.terms t.0)) result }
+        ensures sorted { (sig : Signature) → IsSortedIn sig self.old → IsSortedIn sig self.new }
+    {
+        let pairs = equation_pairs(alloc, self, s, t)?;
+        let subst = solve(alloc, &pairs)?;
+        check_equation(self, &subst, s, t)?;
+        let sent = add_equation(alloc, self, &subst, s, t)?;
+        Ok(sent)
+    }
+}

@@ -1,0 +1,21 @@
+// The limits on what is built.
+
+ghost use Rattle.ath_terms.specs.Construction.{MatchMeasured};
+
+use crate::measure::{BuildError, MOST_LEVELS, MOST_NODES};
+
+/// Refuses a tree with a sort above the limits, then one of too many nodes, then one of too many levels.
+pub(crate) fn check_limits(small: bool, nodes: u64, levels: u64) -> Result<(), BuildError>
+    ensures { MatchMeasured (record { small = small; nodes = nodes; levels = levels }) result }
+{
+    if !small {
+        return Err(BuildError::SortTooLarge);
+    }
+    if MOST_NODES < nodes {
+        return Err(BuildError::TooLarge(nodes));
+    }
+    if MOST_LEVELS < levels {
+        return Err(BuildError::TooDeep(levels));
+    }
+    Ok(())
+}

@@ -1,0 +1,129 @@
+// Constructions of one term: an ascription and an atom.
+
+ghost use Rattle.std.specs.Prelude.{◌≡◌, ◌<◌, ◌∷◌, [], true, length, IfOk};
+ghost use Rattle.ath_sorts.specs.Signature.{Signature, boolean};
+ghost use Rattle.ath_sorts.specs.Sorts.{image, apply_to};
+ghost use Rattle.ath_sorts.specs.declared.sorts.SVar.{SVar};
+ghost use Rattle.ath_terms.specs.Tree.{atom};
+ghost use Rattle.ath_terms.specs.Trees.{term_at, sort_at, Grows, IsSent};
+ghost use Rattle.ath_terms.specs.Measure.{IsSmall};
+ghost use Rattle.ath_terms.specs.SortsIn.{IsSortedIn};
+ghost use Rattle.ath_terms.specs.Variables.{with_term};
+ghost use Rattle.ath_terms.specs.Under.{term_under, sent_under};
+ghost use Rattle.ath_terms.specs.WellSorted.{is_valid_sort};
+ghost use Rattle.ath_terms.specs.Construction.{variable_pairs, term_measure, ascription_plan, IsClashAt, MatchMeasured, MatchTerm, MatchAtom, MatchBoolean};
+
+use crate::construction::apply::{is_term_within, term_under};
+use crate::construction::limits::check_limits;
+use crate::construction::pairs::{add_pair, add_variable_pairs, clash, solve};
+use crate::construction::variables::add_term_vars;
+use crate::measure::{BuildError, term_depth, term_size};
+use crate::node::{SentId, SentNode, TermId};
+use crate::store::Store;
+use ath_sorts::sorts::BOOLEAN;
+use ath_sorts::{Sort, SortSubst, UnifyError, unify};
+use sqlite_items::Items;
+use std::alloc::{AllocError, Global};
+
+fn term_pairs(
+    alloc: Global,
+    store: &Store,
+    t: TermId,
+    sort: &Sort,
+) -> Result<Vec<(Sort, Sort)>, AllocError>
+    requires { t.0 < length store.now.terms }
+    ensures { IfOk result (λ pairs. pairs.items ≡ (sort_at store.now.sorts t.0, sort.now) ∷ variable_pairs (with_term [] (term_at store.now.terms t.0))) }
+{
+    let mut pairs = Vec::new(alloc);
+    add_pair(alloc, &mut pairs, store.sort_of(t), sort)?;
+    let mut found = Vec::new(alloc);
+    add_term_vars(alloc, store, &mut found, t)?;
+    add_variable_pairs(alloc, &mut pairs, found.as_slice())?;
+    Ok(pairs)
+}
+
+fn boolean_sort(alloc: Global) -> Sort
+    ensures { result ≡ boolean }
+{
+    Sort::Con(BOOLEAN, Items::new(alloc))
+}
+
+fn check_term(store: &Store, subst: &SortSubst, t: TermId) -> Result<(), BuildError>
+    requires inside { t.0 < length store.now.terms }
+    requires small { IsSmall (atom (term_at store.now.terms t.0)) }
+    ensures { (sig : Signature) → IsSortedIn sig store.now → MatchMeasured (term_measure sig (term_under (image subst.now) (term_at store.now.terms t.0))) result }
+{
+    let small = is_term_within(store, subst, t);
+    let nodes = term_size(store, t);
+    let levels = term_depth(store, t);
+    check_limits(small, nodes, levels)
+}
+
+/// The least unifier of an atom's pairs, the first of which is the term's sort with Boolean.
+fn solve_atom(alloc: Global, pairs: &Vec<(Sort, Sort)>, t: TermId) -> Result<SortSubst, BuildError>
+    ensures { MatchBoolean t pairs.now.items result }
+{
+    match unify(alloc, pairs) {
+        Ok(subst) => Ok(subst),
+        Err(UnifyError::Clash(at)) => {
+            if at == 0 {
+                return Err(BuildError::NotBoolean(t));
+            }
+            let told = clash(alloc, pairs, at)?;
+            Err(told)
+        }
+        Err(UnifyError::SortTooLarge) => Err(BuildError::SortTooLarge),
+        Err(UnifyError::Memory) => Err(BuildError::Memory),
+    }
+}
+
+pub(crate) fn add_atom(
+    alloc: Global,
+    store: &mut Store,
+    subst: &SortSubst,
+    t: TermId,
+) -> Result<SentId, AllocError>
+    requires { t.0 < length store.old.terms }
+    ensures grows { Grows store.old store.new }
+    ensures tree { IfOk result (λ p. IsSent store.new p.0 (sent_under (image subst.now) (atom (term_at store.old.terms t.0)))) }
+    ensures sorted { (sig : Signature) → IsSortedIn sig store.old → ((v : SVar) → is_valid_sort sig (image subst.now v) ≡ true) → apply_to (image subst.now) (sort_at store.old.sorts t.0) ≡ boolean → IsSortedIn sig store.new }
+{
+    let term = term_under(alloc, store, subst, t)?;
+    let sent = store.add_sent(SentNode::Atom(term))?;
+    Ok(sent)
+}
+
+impl Store {
+    /// The term with its sort made the other.
+    pub fn ascribe(&mut self, alloc: Global, t: TermId, sort: &Sort) -> Result<TermId, BuildError>
+        requires inside { t.0 < length self.old.terms }
+        requires small { IsSmall (atom (term_at self.old.terms t.0)) }
+        ensures grows { Grows self.old self.new }
+        ensures inside { IfOk result (λ r. r.0 < length self.new.terms) }
+        ensures built { (sig : Signature) → IsSortedIn sig self.old → MatchTerm sig self.new (ascription_plan sig (term_at self.old.terms t.0) sort.now) result }
+        ensures sorted { (sig : Signature) → IsSortedIn sig self.old → is_valid_sort sig sort.now ≡ true → IsSortedIn sig self.new }
+    {
+        let pairs = term_pairs(alloc, self, t, sort)?;
+        let subst = solve(alloc, &pairs)?;
+        check_term(self, &subst, t)?;
+        let term = term_under(alloc, self, &subst, t)?;
+        Ok(term)
+    }
+
+    /// The atom of a term, whose sort is made Boolean.
+    pub fn atom(&mut self, alloc: Global, t: TermId) -> Result<SentId, BuildError>
+        requires inside { t.0 < length self.old.terms }
+        requires small { IsSmall (atom (term_at self.old.terms t.0)) }
+        ensures grows { Grows self.old self.new }
+        ensures inside { IfOk result (λ r. r.0 < length self.new.sents) }
+        ensures built { (sig : Signature) → IsSortedIn sig self.old → MatchAtom sig self.new t (term_at self.old.terms t.0) result }
+        ensures sorted { (sig : Signature) → IsSortedIn sig self.old → IsSortedIn sig self.new }
+    {
+        let boolean = boolean_sort(alloc);
+        let pairs = term_pairs(alloc, self, t, &boolean)?;
+        let subst = solve_atom(alloc, &pairs, t)?;
+        check_term(self, &subst, t)?;
+        let sent = add_atom(alloc, self, &subst, t)?;
+        Ok(sent)
+    }
+}

@@ -18,18 +18,18 @@ pub fn each_theorem_follows()
     ensures { EachTheoremFollows }
 {}
 
-/// A directive that is refused has that one event, and leaves all of the state but the fuel.
+/// A directive that is refused has that one event, and leaves all of the state but the fuel and the counters.
 pub fn refused_leaves_state()
     ensures { RefusedLeavesState }
 {}
 
-/// Fuel never rises.
+/// Fuel never rises, and the counters of fresh names never fall.
 pub fn fuel_never_rises()
     ensures { FuelNeverRises }
 {}
 
-/// A directive that is exhausted has that one event, leaves all of the state but the fuel, of which none is left, and ends
-/// the run.
+/// A directive that is exhausted has that one event, leaves all of the state but the counters and the fuel, of which none
+/// is left, and ends the run.
 pub fn exhausted_keeps_state()
     ensures { ExhaustedKeepsState }
 {}

@@ -9,9 +9,8 @@ use Rattle.ath_sorts.specs.declared.sorts.Sort.TheVariants.{rolls-Var, rolls-Con
 use Rattle.ath_sorts.specs.declared.sorts.Sort.TheFolds.{fold-roll-Sort}
 use Rattle.ath_sorts.proofs.SortLaws.{sort_induction}
 use Rattle.ath_sorts.specs.Signature.{Signature, arity_of}
-use Rattle.ath_terms.specs.declared.node.Conn.TheVariants.{Not, And, Or, If, Iff}
-use Rattle.ath_terms.specs.Tree.{Term, Terms, Sent, atom, equal, negated, joined, bound}
-use Rattle.ath_terms.specs.WellSorted.{has_arity, valid_step, is_valid_sort, HasSort, var_has, app_has, HaveSorts, none_has, more_has, IsWellSorted, AreWellSorted}
+use Rattle.ath_trees.specs.Tree.{Term, Terms, Sent, atom, equal, negated, joined, bound}
+use Rattle.ath_trees.specs.WellSorted.{has_arity, valid_step, is_valid_sort, HasSort, var_has, app_has, HaveSorts, none_has, more_has, IsWellSorted, AreWellSorted}
 use Rattle.ath_calculus.specs.Derives.{Derives, axiom_of, if_elim}
 use Rattle.ath_calculus.specs.Laws.{Extends, AreIn}
 
@@ -71,11 +70,7 @@ module _ (old new : Signature) (grown : Extends old new) where
   sent_kept (atom t) h = term_kept h
   sent_kept (equal s t) h = (h.0, (term_kept h.1.0, term_kept h.1.1))
   sent_kept (negated p) h = sent_kept p h
-  sent_kept (joined Not p q) h = h
-  sent_kept (joined And p q) h = (sent_kept p h.0, sent_kept q h.1)
-  sent_kept (joined Or p q) h = (sent_kept p h.0, sent_kept q h.1)
-  sent_kept (joined If p q) h = (sent_kept p h.0, sent_kept q h.1)
-  sent_kept (joined Iff p q) h = (sent_kept p h.0, sent_kept q h.1)
+  sent_kept (joined c p q) h = (sent_kept p h.0, sent_kept q h.1)
   sent_kept (bound q v p) h = (sort_kept v.sort h.0, sent_kept p h.1)
 
   pub sents_kept : (ps : List Sent) → AreWellSorted old ps → AreWellSorted new ps

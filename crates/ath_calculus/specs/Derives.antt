@@ -1,9 +1,9 @@
 -- Natural deduction in a signature, from asserted sentences, under hypotheses. A list of hypotheses is read as a set.
 use Rattle.std.specs.Prelude.{◌≡◌, ◌⊎◌, List, [], ◌∷◌}
 use Rattle.ath_sorts.specs.Signature.{Signature}
-use Rattle.ath_terms.specs.declared.node.Conn.TheVariants.{If}
-use Rattle.ath_terms.specs.Tree.{Sent, joined}
-use Rattle.ath_terms.specs.WellSorted.{IsWellSorted, AreWellSorted}
+use Rattle.ath_trees.specs.declared.node.Binary.TheVariants.{If}
+use Rattle.ath_trees.specs.Tree.{Sent, joined}
+use Rattle.ath_trees.specs.WellSorted.{IsWellSorted, AreWellSorted}
 
 abbrev pub IsIn : Sent → List Sent → Type 0
 IsIn p [] = ⊥

@@ -3,8 +3,8 @@ use Rattle.std.specs.Prelude.{◌≡◌, ℕ, List, Some}
 use Rattle.ath_sorts.specs.declared.sorts.Sym.{Sym}
 use Rattle.ath_sorts.specs.declared.signature.Symbol.{Symbol}
 use Rattle.ath_sorts.specs.Signature.{Signature, arity_of, symbol_of}
-use Rattle.ath_terms.specs.Tree.{Sent}
-use Rattle.ath_terms.specs.WellSorted.{IsWellSorted}
+use Rattle.ath_trees.specs.Tree.{Sent}
+use Rattle.ath_trees.specs.WellSorted.{IsWellSorted}
 use Rattle.ath_calculus.specs.Derives.{Derives, IsIn}
 
 -- what the one signature has, the other has too

@@ -2,24 +2,32 @@
 #![tactic(auto)]
 
 mod exit;
+mod messages;
+#[cfg(test)]
+mod tests;
 
 ghost use Rattle.std.specs.Prelude.{◌≡◌, ◌⊎◌, None, map, string_bytes};
 ghost use Rattle.ath_words.specs.Words.{run_of};
 ghost use Rattle.ath_session.specs.declared.status.Status.TheVariants.{Usage, Memory};
 
 use crate::exit::{exit_number, number_without_words};
-use ath_io::{DirShelf, OutSink};
+use crate::messages::{NO_MEMORY, message, message_without_words};
+use ath_io::{DirShelf, OutSink, Sink};
 use ath_session::{Status, athena};
+use std::alloc::Global;
 use std::process::ExitCode;
 use std::rt::Env;
 use std::{env, io};
 
-const USAGE: &str = "usage: athena [--fuel N] FILE.. | athena [--fuel N] --generate N";
-
 fn main(rt: HostRuntime) -> ExitCode {
+    let mut sink = OutSink::new(rt.stdout());
+    let mut errors = OutSink::new(rt.stderr());
     let number = match words(&rt) {
-        Ok(words) => exit_number(run(&rt, &words)),
-        Err(error) => number_without_words(error.kind()),
+        Ok(words) => exit_number(run(&rt, &words, &mut sink, &mut errors)),
+        Err(error) => {
+            say(message_without_words(error.kind()).as_bytes(), &mut errors);
+            number_without_words(error.kind())
+        }
     };
     ExitCode::from(number)
 }
@@ -33,17 +41,31 @@ fn words(rt: &(impl Env + AllocGlobal)) -> io::Result<Vec<String>> {
     Ok(words)
 }
 
-/// Runs the words over the files and standard output; a usage fault is told on standard error.
-fn run(rt: &HostRuntime, words: &Vec<String>) -> Status
+/// Runs the words over the files and this sink; why the run ended is told to `errors`, where the report doesn't say it.
+fn run<K: Sink, E: Sink>(
+    rt: &HostRuntime,
+    words: &Vec<String>,
+    sink: &mut K,
+    errors: &mut E,
+) -> Status
     ensures usage { result ≡ Usage → run_of (map string_bytes words.now.items) ≡ None }
     ensures no_run { run_of (map string_bytes words.now.items) ≡ None → (result ≡ Usage ⊎ result ≡ Memory) }
 {
     let mut shelf = DirShelf::new(rt);
-    let mut sink = OutSink::new(rt.stdout());
-    let status = athena(rt.alloc(), words, &mut shelf, &mut sink);
-    if status == Status::Usage {
-        // The status stands whether or not this line is taken.
-        let _ = eprintln!(rt; "{USAGE}");
-    }
+    let status = athena(rt.alloc(), words, &mut shelf, sink);
+    explain(rt.alloc(), status, shelf.failed(), errors);
     status
+}
+
+/// Says why a run ended so.
+fn explain<E: Sink>(alloc: Global, status: Status, failed: Option<&str>, errors: &mut E) {
+    match message(alloc, status, failed) {
+        Ok(line) => say(line.as_slice(), errors),
+        Err(_) => say(NO_MEMORY.as_bytes(), errors),
+    }
+}
+
+/// The status stands whether or not a line is taken.
+fn say<E: Sink>(line: &[u8], errors: &mut E) {
+    let _ = errors.put(line);
 }

@@ -9,12 +9,12 @@ use Rattle.ath_sorts.specs.declared.sorts.Sort.TheFolds.{fold-roll-Sort}
 use Rattle.ath_sorts.specs.Signature.{Signature, boolean}
 use Rattle.ath_sorts.specs.Unifiers.{all_pass, same_step, same_sort}
 use Rattle.ath_sorts.proofs.SameSorts.{same_sort-true}
-use Rattle.ath_terms.specs.declared.node.TermId.{TermId}
-use Rattle.ath_terms.specs.declared.node.SentId.{SentId}
-use Rattle.ath_terms.specs.Tree.{Term, Sent, atom}
+use Rattle.ath_trees.specs.declared.node.TermId.{TermId}
+use Rattle.ath_trees.specs.declared.node.SentId.{SentId}
+use Rattle.ath_trees.specs.Tree.{Term, Sent, atom}
 use Rattle.ath_terms.specs.Trees.{Trees, Grows, IsSent, term_at, sort_at}
 use Rattle.ath_terms.specs.SortsIn.{IsSortedIn}
-use Rattle.ath_terms.specs.WellSorted.{HasSort, IsWellSorted}
+use Rattle.ath_trees.specs.WellSorted.{HasSort, IsWellSorted}
 use Rattle.ath_terms.proofs.Grow.{sent-kept}
 use Rattle.ath_env.specs.declared.value.Value.{Value as Coded}
 use Rattle.ath_env.specs.declared.value.Value.TheVariants as code

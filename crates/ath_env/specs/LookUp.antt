@@ -5,8 +5,8 @@ use Rattle.std.specs.Str.{bytes_eq}
 use Rattle.ath_sorts.specs.declared.sorts.Sym.{Sym}
 use Rattle.ath_sorts.specs.declared.signature.Symbol.{Symbol}
 use Rattle.ath_sorts.specs.Signature.{Signature, symbol_of}
-use Rattle.ath_terms.specs.declared.node.Conn.TheVariants.{Not, And, Or, If, Iff}
-use Rattle.ath_terms.specs.declared.node.Quant.TheVariants.{Forall, Exists}
+use Rattle.ath_trees.specs.declared.node.Conn.TheVariants.{Not, And, Or, If, Iff}
+use Rattle.ath_trees.specs.declared.node.Quant.TheVariants.{Forall, Exists}
 use Rattle.ath_env.specs.Values.{Value, a_symbol, a_connective, a_quantifier, a_back, a_method}
 
 abbrev pub equality : Sym

@@ -5,10 +5,10 @@ use Rattle.ath_sorts.specs.declared.sorts.Sym.{Sym}
 use Rattle.ath_sorts.specs.declared.sorts.Sort.{Sort}
 use Rattle.ath_sorts.specs.Signature.{boolean}
 use Rattle.ath_sorts.specs.Unifiers.{same_sort}
-use Rattle.ath_terms.specs.declared.node.Conn.{Conn as Connective}
-use Rattle.ath_terms.specs.declared.node.Quant.{Quant as Quantifier}
-use Rattle.ath_terms.specs.declared.node.SentId.{SentId}
-use Rattle.ath_terms.specs.Tree.{Term, Sent, atom}
+use Rattle.ath_trees.specs.declared.node.Conn.{Conn as Connective}
+use Rattle.ath_trees.specs.declared.node.Quant.{Quant as Quantifier}
+use Rattle.ath_trees.specs.declared.node.SentId.{SentId}
+use Rattle.ath_trees.specs.Tree.{Term, Sent, atom}
 use Rattle.ath_terms.specs.Trees.{Trees, term_at, sort_at, sent_at, IsSent}
 use Rattle.ath_env.specs.declared.value.Value.{Value as Coded}
 use Rattle.ath_env.specs.declared.value.Value.TheVariants as code

@@ -10,7 +10,7 @@ ghost use Rattle.ath_env.specs.Values.{IsFound};
 use crate::value::Value;
 use ath_names::Names;
 use ath_sorts::{Signature, Sym};
-use ath_terms::{Conn, Quant};
+use ath_trees::{Conn, Quant};
 
 const FIRST_VALUES: [(&str, Value); 11] = [
     ("claim", Value::PrimMethod(0)),

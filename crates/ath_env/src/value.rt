@@ -9,7 +9,8 @@ ghost use Rattle.ath_env.specs.Values.{IsIn, value_at, sentence_of, IsSentenceOf
 
 use ath_sorts::sorts::BOOLEAN;
 use ath_sorts::{Sort, Sym};
-use ath_terms::{Conn, Quant, SentId, SentNode, Store, TermId};
+use ath_terms::{SentNode, Store};
+use ath_trees::{Conn, Quant, SentId, TermId};
 use std::alloc::AllocError;
 
 /// A value, whose terms and sentences are numbers of a `Store`. An atom is always a `Term`.

@@ -4,9 +4,9 @@ use Rattle.ath_sorts.specs.Signature.{Signature}
 use Rattle.ath_syntax.specs.declared.place.Pos.{Pos}
 use Rattle.ath_terms.specs.declared.measure.BuildError.{BuildError}
 use Rattle.ath_terms.specs.declared.measure.BuildError.TheVariants.{Memory}
-use Rattle.ath_terms.specs.declared.node.SentId.{SentId}
-use Rattle.ath_terms.specs.declared.node.TermId.{TermId}
-use Rattle.ath_terms.specs.Tree.{Term, Sent}
+use Rattle.ath_trees.specs.declared.node.SentId.{SentId}
+use Rattle.ath_trees.specs.declared.node.TermId.{TermId}
+use Rattle.ath_trees.specs.Tree.{Term, Sent}
 use Rattle.ath_terms.specs.Trees.{Trees}
 use Rattle.ath_env.specs.declared.value.Value.TheVariants as code
 use Rattle.ath_env.specs.Values.{a_term, a_sentence}

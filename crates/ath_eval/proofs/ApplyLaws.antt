@@ -4,7 +4,7 @@ use Rattle.ath_sorts.specs.declared.sorts.Sym.{Sym}
 use Rattle.ath_sorts.specs.Signature.{Signature, symbol_of}
 use Rattle.ath_syntax.specs.declared.place.Pos.{Pos}
 use Rattle.ath_terms.specs.declared.fresh.Fresh.{Fresh}
-use Rattle.ath_terms.specs.declared.node.Conn.{Conn as Connective}
+use Rattle.ath_trees.specs.declared.node.Conn.{Conn as Connective}
 use Rattle.ath_terms.specs.Trees.{Trees}
 use Rattle.ath_env.specs.declared.value.Value as value
 use Rattle.ath_env.specs.declared.value.Value.TheVariants as code

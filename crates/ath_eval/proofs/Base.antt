@@ -1,11 +1,11 @@
 -- The assumption base, sentence by sentence, while the store grows.
 use Rattle.std.proofs.Common.{◌≡◌, ◌↔◌, ◌<◌, ◌+◌, ℕ, Bool, true, false, ◌||◌, List, [], ◌∷◌, length, get_or, drop, refl, sym, ◌∙◌, ap, add-one, drop-cons, subst, arith}
 use Rattle.std.proofs.lemmas.List.Elements.{All-head, All-tail}
-use Rattle.ath_terms.specs.declared.node.SentId.{SentId}
-use Rattle.ath_terms.specs.Tree.{Sent}
+use Rattle.ath_trees.specs.declared.node.SentId.{SentId}
+use Rattle.ath_trees.specs.Tree.{Sent}
 use Rattle.ath_terms.specs.Trees.{Trees, sent_at, Grows}
-use Rattle.ath_terms.specs.Measure.{IsSmall}
-use Rattle.ath_terms.proofs.SameLaws.{same_sent_is}
+use Rattle.ath_trees.specs.Measure.{IsSmall}
+use Rattle.ath_trees.proofs.SameLaws.{same_sent_is}
 use Rattle.ath_eval.specs.Base.{sents_of, AreIn}
 use Rattle.ath_eval.specs.declared.setting.Setting.{Setting}
 use Rattle.ath_eval.specs.Outcomes.{Context}

@@ -10,16 +10,18 @@ use Rattle.ath_syntax.specs.declared.place.Pos.{Pos}
 use Rattle.ath_terms.specs.declared.fresh.Fresh.{Fresh}
 use Rattle.ath_terms.specs.declared.measure.BuildError.{BuildError}
 use Rattle.ath_terms.specs.declared.measure.BuildError.TheVariants.{Memory}
-use Rattle.ath_terms.specs.declared.node.Conn.{Conn}
-use Rattle.ath_terms.specs.declared.node.Conn.TheVariants.{Not, And, Or, If, Iff}
-use Rattle.ath_terms.specs.declared.node.SentId.{SentId}
-use Rattle.ath_terms.specs.declared.node.TermId.{TermId}
+use Rattle.ath_trees.specs.declared.node.Conn.{Conn}
+use Rattle.ath_trees.specs.declared.node.Binary.{Binary}
+use Rattle.ath_trees.specs.declared.node.Binary.TheVariants as binary
+use Rattle.ath_trees.specs.declared.node.Conn.TheVariants.{Not, And, Or, If, Iff}
+use Rattle.ath_trees.specs.declared.node.SentId.{SentId}
+use Rattle.ath_trees.specs.declared.node.TermId.{TermId}
 use Rattle.ath_terms.specs.Construction.{MatchAtom, MatchSent, MatchCounted, MatchConnective, connected, grouped, takes, connective_plan, sent_measure}
-use Rattle.ath_terms.specs.Measure.{IsSmall}
-use Rattle.ath_terms.specs.Tree.{Sent, atom, equal, negated, joined, bound}
+use Rattle.ath_trees.specs.Measure.{IsSmall}
+use Rattle.ath_trees.specs.Tree.{Sent, atom, equal, negated, joined, bound}
 use Rattle.ath_terms.specs.Trees.{Trees, term_at, sent_at, Grows}
-use Rattle.ath_terms.specs.Under.{sent_under, has_no_binder}
-use Rattle.ath_terms.proofs.ValidSorts.{both_true}
+use Rattle.ath_trees.specs.Under.{sent_under, has_no_binder}
+use Rattle.ath_trees.proofs.ValidSorts.{both_true}
 use Rattle.ath_env.specs.declared.value.Value as value
 use Rattle.ath_env.specs.declared.value.Value.TheVariants as code
 use Rattle.ath_env.specs.Values.{value_at}
@@ -157,7 +159,7 @@ free_under f (bound b v p) h = absurd (cc)
 abbrev IsFree : Sent → Type 0
 IsFree p = has_no_binder p ≡ true
 
-free_grouped : (c : Conn) (ps : List Sent) → All IsFree ps → IsFree (grouped c ps)
+free_grouped : (c : Binary) (ps : List Sent) → All IsFree ps → IsFree (grouped c ps)
 free_grouped c [] h = refl
 free_grouped c (p ∷ []) h = All-head IsFree p [] h
 free_grouped c (p ∷ q ∷ ps) h = both_true (has_no_binder p) (has_no_binder (grouped c (q ∷ ps))) (All-head IsFree p (q ∷ ps) h) (free_grouped c (q ∷ ps) (All-tail IsFree p (q ∷ ps) h))
@@ -166,10 +168,10 @@ free_grouped c (p ∷ q ∷ ps) h = both_true (has_no_binder p) (has_no_binder (
 connected_free : (c : Conn) (ps : List Sent) → All IsFree ps → IsFree (connected c ps)
 connected_free Not [] h = refl
 connected_free Not (p ∷ ps) h = All-head IsFree p ps h
-connected_free And ps h = free_grouped And ps h
-connected_free Or ps h = free_grouped Or ps h
-connected_free If ps h = free_grouped If ps h
-connected_free Iff ps h = free_grouped Iff ps h
+connected_free And ps h = free_grouped binary.And ps h
+connected_free Or ps h = free_grouped binary.Or ps h
+connected_free If ps h = free_grouped binary.If ps h
+connected_free Iff ps h = free_grouped binary.Iff ps h
 
 free_trees : (s : Trees) (ids : List SentId) → All (IsSentIn s) ids → All IsFree (trees_of s ids)
 free_trees s [] h = All-nil IsFree

@@ -13,17 +13,19 @@ use Rattle.ath_sorts.specs.Validity.{IsValid}
 use Rattle.ath_sorts.proofs.SortLaws.{apply-con}
 use Rattle.ath_unifiers.specs.Unified.{Unified, solved, clashes, too_large, unified, IsUnified}
 use Rattle.ath_unifiers.proofs.Outcomes.{unified_is}
-use Rattle.ath_terms.specs.declared.node.Conn.{Conn}
-use Rattle.ath_terms.specs.declared.node.Conn.TheVariants.{Not, And, Or, If, Iff}
-use Rattle.ath_terms.specs.Tree.{Term, app, listed, Sent}
-use Rattle.ath_terms.specs.Measure.{most_nodes, most_levels}
-use Rattle.ath_terms.specs.SortsIn.{sort_in}
-use Rattle.ath_terms.specs.Under.{term_under, terms_under}
-use Rattle.ath_terms.specs.Variables.{with_term, with_terms, with_sents}
-use Rattle.ath_terms.specs.WellSorted.{has_arity, is_valid_sort, HasSort, app_has, HaveSorts, none_has, more_has, IsWellSorted, AreWellSorted}
+use Rattle.ath_trees.specs.declared.node.Conn.{Conn}
+use Rattle.ath_trees.specs.declared.node.Binary.{Binary}
+use Rattle.ath_trees.specs.declared.node.Binary.TheVariants as binary
+use Rattle.ath_trees.specs.declared.node.Conn.TheVariants.{Not, And, Or, If, Iff}
+use Rattle.ath_trees.specs.Tree.{Term, app, listed, Sent}
+use Rattle.ath_trees.specs.declared.limits.TheConstants.{MOST_TERM_NODES, MOST_TERM_LEVELS}
+use Rattle.ath_trees.specs.SortsIn.{sort_in}
+use Rattle.ath_trees.specs.Under.{term_under, terms_under}
+use Rattle.ath_trees.specs.Variables.{with_term, with_terms, with_sents}
+use Rattle.ath_trees.specs.WellSorted.{has_arity, is_valid_sort, HasSort, app_has, HaveSorts, none_has, more_has, IsWellSorted, AreWellSorted}
 use Rattle.ath_terms.specs.Construction.{Plan, made_sorts, variable_pairs, app_plan, equation_plan, ascription_plan, atom_plan, connective_plan, grouped, connected, takes, Measure, term_measure, sent_measure}
-use Rattle.ath_terms.proofs.ValidSorts.{both_true, valid-con, valid_all_under, all_at_sorts_under, symbol_good}
-use Rattle.ath_terms.proofs.UnderLaws.{sort_in-is, has_sort-under, have_sorts-under, well_sorted-under}
+use Rattle.ath_trees.proofs.ValidSorts.{both_true, valid-con, valid_all_under, all_at_sorts_under, symbol_good}
+use Rattle.ath_trees.proofs.UnderLaws.{sort_in-is, has_sort-under, have_sorts-under, well_sorted-under}
 use Rattle.ath_terms.proofs.UnifierValid.{unifier_valid}
 use Rattle.ath_terms.proofs.ConstructionLaws.{has_sort-valid, zip-valid, term_vars-valid, terms_vars-valid, sents_vars-valid, append-valid, variable_pairs-valid}
 use Rattle.ath_terms.proofs.ListLaws.{made-length}
@@ -36,7 +38,7 @@ use Rattle.ath_eval.specs.Applying.{Part, term_part, sentence_part, sentence_mad
 
 -- ---- the tree that is constructed is that by the least unifier
 within-is : {T : Type 0} (x y : T) (m : Measure) → within x m ≡ builds y → y ≡ x
-within-is {T} x y m e = go m.small (nat_lt most_nodes m.nodes) (nat_lt most_levels m.levels) e
+within-is {T} x y m e = go m.small (nat_lt MOST_TERM_NODES m.nodes) (nat_lt MOST_TERM_LEVELS m.levels) e
   where
     go : (a b d : Bool) → (if a then (if b then refuses (refusal TooLarge (number_named m.nodes ∷ [])) else if d then refuses (refusal TooDeep (number_named m.levels ∷ [])) else builds x) else refuses (refusal SortTooLarge [])) ≡ builds y → y ≡ x
     go true true d f = absurd (cc)
@@ -146,21 +148,9 @@ module _ (sig : Signature) (valid : IsValid sig) (there : arity_of sig (record {
         subst IsSorted (sym k.1.1) (own-sort (term_under (image k.0) (app d.name made (listed ts))) (at_sorts d.params (map (apply_to (image k.0)) made) d.result) (under-sorted k.0 k.1.0))
 
   -- ---- connectives
-  and-grouped : (p : Sent) (ps : List Sent) → IsWellSorted sig p → AreWellSorted sig ps → IsWellSorted sig (grouped And (p ∷ ps))
-  and-grouped p [] h g = h
-  and-grouped p (q ∷ ps) h g = (h, and-grouped q ps g.0 g.1)
-
-  or-grouped : (p : Sent) (ps : List Sent) → IsWellSorted sig p → AreWellSorted sig ps → IsWellSorted sig (grouped Or (p ∷ ps))
-  or-grouped p [] h g = h
-  or-grouped p (q ∷ ps) h g = (h, or-grouped q ps g.0 g.1)
-
-  if-grouped : (p : Sent) (ps : List Sent) → IsWellSorted sig p → AreWellSorted sig ps → IsWellSorted sig (grouped If (p ∷ ps))
-  if-grouped p [] h g = h
-  if-grouped p (q ∷ ps) h g = (h, if-grouped q ps g.0 g.1)
-
-  iff-grouped : (p : Sent) (ps : List Sent) → IsWellSorted sig p → AreWellSorted sig ps → IsWellSorted sig (grouped Iff (p ∷ ps))
-  iff-grouped p [] h g = h
-  iff-grouped p (q ∷ ps) h g = (h, iff-grouped q ps g.0 g.1)
+  grouped-sorted : (c : Binary) (p : Sent) (ps : List Sent) → IsWellSorted sig p → AreWellSorted sig ps → IsWellSorted sig (grouped c (p ∷ ps))
+  grouped-sorted c p [] h g = h
+  grouped-sorted c p (q ∷ ps) h g = (h, grouped-sorted c q ps g.0 g.1)
 
   whole-sorted : (c : Conn) (ps : List Sent) → AreWellSorted sig ps → takes c (length ps) ≡ true → IsWellSorted sig (connected c ps)
   whole-sorted Not [] h e = absurd (cc)
@@ -169,10 +159,10 @@ module _ (sig : Signature) (valid : IsValid sig) (there : arity_of sig (record {
   whole-sorted If [] h e = absurd (cc)
   whole-sorted Iff [] h e = absurd (cc)
   whole-sorted Not (p ∷ ps) h e = h.0
-  whole-sorted And (p ∷ ps) h e = and-grouped p ps h.0 h.1
-  whole-sorted Or (p ∷ ps) h e = or-grouped p ps h.0 h.1
-  whole-sorted If (p ∷ ps) h e = if-grouped p ps h.0 h.1
-  whole-sorted Iff (p ∷ ps) h e = iff-grouped p ps h.0 h.1
+  whole-sorted And (p ∷ ps) h e = grouped-sorted binary.And p ps h.0 h.1
+  whole-sorted Or (p ∷ ps) h e = grouped-sorted binary.Or p ps h.0 h.1
+  whole-sorted If (p ∷ ps) h e = grouped-sorted binary.If p ps h.0 h.1
+  whole-sorted Iff (p ∷ ps) h e = grouped-sorted binary.Iff p ps h.0 h.1
 
   pub connective-sorted : (c : Conn) (ps : List Sent) (x : Sent) → AreWellSorted sig ps → made_connective sig c ps ≡ builds x → IsWellSorted sig x
   connective-sorted c ps x h e = go (takes c (length ps)) (λ f. whole-sorted c ps h f) e

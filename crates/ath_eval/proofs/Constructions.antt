@@ -14,14 +14,14 @@ use Rattle.ath_sorts.proofs.Bools.{true-not-false}
 use Rattle.ath_sorts.proofs.UnifierLaws.{agree}
 use Rattle.ath_terms.specs.declared.measure.BuildError.{BuildError}
 use Rattle.ath_terms.specs.declared.measure.BuildError.TheVariants.{SortClash, ArgCount, NotBoolean, TooLarge, TooDeep, SortTooLarge, Memory}
-use Rattle.ath_terms.specs.declared.node.SentId.{SentId}
-use Rattle.ath_terms.specs.declared.node.TermId.{TermId}
+use Rattle.ath_trees.specs.declared.node.SentId.{SentId}
+use Rattle.ath_trees.specs.declared.node.TermId.{TermId}
 use Rattle.ath_terms.specs.Construction.{Plan, Measure, IsWithin, IsForbidden, MatchRefused, MatchTerm, MatchSent, MatchApp, MatchAtom, app_plan, equation_plan, ascription_plan, atom_plan, term_measure, sent_measure}
-use Rattle.ath_terms.specs.Measure.{most_nodes, most_levels}
-use Rattle.ath_terms.specs.SortsIn.{sort_in}
-use Rattle.ath_terms.specs.Tree.{Term, Sent}
+use Rattle.ath_trees.specs.declared.limits.TheConstants.{MOST_TERM_NODES, MOST_TERM_LEVELS}
+use Rattle.ath_trees.specs.SortsIn.{sort_in}
+use Rattle.ath_trees.specs.Tree.{Term, Sent}
 use Rattle.ath_terms.specs.Trees.{Trees, term_at}
-use Rattle.ath_terms.specs.Under.{has_no_binder}
+use Rattle.ath_trees.specs.Under.{has_no_binder}
 use Rattle.ath_unifiers.specs.Unified.{Unified, solved, clashes, too_large, unified, IsUnified}
 use Rattle.ath_unifiers.proofs.Outcomes.{unified_is, answer_is}
 use Rattle.ath_unifiers.proofs.Searching.{unifies_take}
@@ -31,24 +31,24 @@ use Rattle.ath_eval.specs.Outcomes.{refusal}
 use Rattle.ath_eval.specs.Building.{Built, builds, refuses, clash, within, by_unifier, constructed, made_app, made_equation, made_ascription, atom_by, made_atom, why_unbuilt, IsRefused, IsTermBuilt, IsSentBuilt}
 
 -- ---- the limits of a tree
-within_built : {T : Type 0} (x : T) (m : Measure) → m.small ≡ true → m.nodes ≤ most_nodes → m.levels ≤ most_levels → within x m ≡ builds x
+within_built : {T : Type 0} (x : T) (m : Measure) → m.small ≡ true → m.nodes ≤ MOST_TERM_NODES → m.levels ≤ MOST_TERM_LEVELS → within x m ≡ builds x
 within_built x m s n l =
-    let a : nat_lt most_nodes m.nodes ≡ false = grind (arith, common_steps) in
-    let b : nat_lt most_levels m.levels ≡ false = grind (arith, common_steps) in
+    let a : nat_lt MOST_TERM_NODES m.nodes ≡ false = grind (arith, common_steps) in
+    let b : nat_lt MOST_TERM_LEVELS m.levels ≡ false = grind (arith, common_steps) in
     rw (s, a, b) refl
 
 within_sort : {T : Type 0} (t : Trees) (x : T) (m : Measure) → m.small ≡ false → within x m ≡ refuses (why_unbuilt t SortTooLarge)
 within_sort t x m s = rw s refl
 
-within_large : {T : Type 0} (t : Trees) (x : T) (m : Measure) (n : ℕ) → m.small ≡ true → most_nodes < m.nodes → n ≡ m.nodes → within x m ≡ refuses (why_unbuilt t (TooLarge n))
+within_large : {T : Type 0} (t : Trees) (x : T) (m : Measure) (n : ℕ) → m.small ≡ true → MOST_TERM_NODES < m.nodes → n ≡ m.nodes → within x m ≡ refuses (why_unbuilt t (TooLarge n))
 within_large t x m n s l e =
-    let a : nat_lt most_nodes m.nodes ≡ true = grind (arith, common_steps) in
+    let a : nat_lt MOST_TERM_NODES m.nodes ≡ true = grind (arith, common_steps) in
     rw (s, a, e) refl
 
-within_deep : {T : Type 0} (t : Trees) (x : T) (m : Measure) (n : ℕ) → m.small ≡ true → m.nodes ≤ most_nodes → most_levels < m.levels → n ≡ m.levels → within x m ≡ refuses (why_unbuilt t (TooDeep n))
+within_deep : {T : Type 0} (t : Trees) (x : T) (m : Measure) (n : ℕ) → m.small ≡ true → m.nodes ≤ MOST_TERM_NODES → MOST_TERM_LEVELS < m.levels → n ≡ m.levels → within x m ≡ refuses (why_unbuilt t (TooDeep n))
 within_deep t x m n s k l e =
-    let a : nat_lt most_nodes m.nodes ≡ false = grind (arith, common_steps) in
-    let b : nat_lt most_levels m.levels ≡ true = grind (arith, common_steps) in
+    let a : nat_lt MOST_TERM_NODES m.nodes ≡ false = grind (arith, common_steps) in
+    let b : nat_lt MOST_TERM_LEVELS m.levels ≡ true = grind (arith, common_steps) in
     rw (s, a, b, e) refl
 
 -- ---- one list of pairs has one outcome

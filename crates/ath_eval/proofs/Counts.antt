@@ -1,7 +1,7 @@
 -- Calls with a wrong number of arguments.
 use Rattle.std.proofs.Common.{◌≡◌, ◌==◌, ℕ, Bool, false, List, [], ◌∷◌, length, refl, sym, ap, ◌∙◌, arith}
 use Rattle.ath_syntax.specs.declared.place.Pos.{Pos}
-use Rattle.ath_terms.specs.Tree.{Sent}
+use Rattle.ath_trees.specs.Tree.{Sent}
 use Rattle.ath_env.specs.Values.{Value}
 use Rattle.ath_print.specs.declared.fault.FaultKind.TheVariants.{ArgCount, NotApplicable}
 use Rattle.ath_print.specs.Events.{number_named}

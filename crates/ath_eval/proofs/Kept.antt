@@ -4,10 +4,10 @@ use Rattle.ath_sorts.specs.declared.sorts.Sort.{Sort}
 use Rattle.ath_sorts.specs.Signature.{Signature}
 use Rattle.ath_sorts.specs.Validity.{IsValid}
 use Rattle.ath_declarations.specs.Laws.{Keeps}
-use Rattle.ath_terms.specs.Tree.{Term, Sent}
+use Rattle.ath_trees.specs.Tree.{Term, Sent}
 use Rattle.ath_terms.specs.Trees.{Trees, term_at, sort_at, sent_at}
 use Rattle.ath_terms.specs.SortsIn.{IsSortedIn}
-use Rattle.ath_terms.specs.WellSorted.{HasSort, IsWellSorted}
+use Rattle.ath_trees.specs.WellSorted.{HasSort, IsWellSorted}
 use Rattle.ath_calculus.specs.Derives.{Derives}
 use Rattle.ath_calculus.specs.Laws.{Extends, AreIn}
 use Rattle.ath_calculus.proofs.Grown.{term_kept, sent_kept, derivation_kept}

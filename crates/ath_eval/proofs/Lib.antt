@@ -9,7 +9,6 @@ pub mod Constructions
 pub mod Counts
 pub mod Frames
 pub mod Fuel
-pub mod Joined
 pub mod Kept
 pub mod KindLaws
 pub mod NameLaws

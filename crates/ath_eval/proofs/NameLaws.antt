@@ -16,9 +16,9 @@ use Rattle.ath_declarations.specs.Outcomes.{MatchOutcome}
 use Rattle.ath_declarations.specs.Texts.{meaning, written_in}
 use Rattle.ath_declarations.proofs.Keeping.{meant_sort}
 use Rattle.ath_terms.specs.declared.fresh.Fresh.{Fresh}
-use Rattle.ath_terms.specs.WellSorted.{is_valid_sort}
+use Rattle.ath_trees.specs.WellSorted.{is_valid_sort}
 use Rattle.ath_terms.specs.Trees.{Trees}
-use Rattle.ath_terms.proofs.ValidSorts.{use_valid}
+use Rattle.ath_trees.proofs.ValidSorts.{use_valid}
 use Rattle.ath_env.specs.declared.value.Value as value
 use Rattle.ath_env.specs.LookUp.{first_values, text_of, found_value, looked_up}
 use Rattle.ath_env.specs.Values.{Value, a_symbol, IsFound}

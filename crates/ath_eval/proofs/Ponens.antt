@@ -1,17 +1,17 @@
 -- What modus ponens answers.
 use Rattle.std.proofs.Common.{◌≡◌, ◌↔◌, ℕ, Bool, true, false, List, Option, refl, sym, ◌∙◌, subst, arith}
 use Rattle.ath_syntax.specs.declared.place.Pos.{Pos}
-use Rattle.ath_terms.specs.declared.node.Conn.TheVariants.{If}
-use Rattle.ath_terms.specs.Tree.{Sent, joined}
+use Rattle.ath_trees.specs.declared.node.Binary.TheVariants.{If}
+use Rattle.ath_trees.specs.Tree.{Sent, joined}
 use Rattle.ath_terms.specs.Trees.{Trees}
-use Rattle.ath_terms.specs.Measure.{IsSmall}
+use Rattle.ath_trees.specs.Measure.{IsSmall}
 use Rattle.ath_terms.specs.declared.fresh.Fresh.{Fresh}
-use Rattle.ath_terms.specs.Under.{has_no_binder}
+use Rattle.ath_trees.specs.Under.{has_no_binder}
 use Rattle.ath_sorts.proofs.Bools.{and_parts}
 use Rattle.ath_env.specs.Values.{a_sentence}
 use Rattle.ath_eval.specs.Arguments.{IsSmallValue}
-use Rattle.ath_terms.specs.Same.{same_sent}
-use Rattle.ath_terms.proofs.SameLaws.{same_sent_is}
+use Rattle.ath_trees.specs.Same.{same_sent}
+use Rattle.ath_trees.proofs.SameLaws.{same_sent_is}
 use Rattle.ath_eval.specs.declared.world.Outcome as code
 use Rattle.ath_eval.specs.Methods.{holds, detached, from_implication, modus_ponens, wrong_shape, not_in_base}
 use Rattle.ath_eval.specs.Outcomes.{Outcome, concludes}

@@ -15,13 +15,13 @@ use Rattle.ath_syntax.specs.declared.node.SortText.{SortText}
 use Rattle.ath_syntax.specs.Tree.{Phrase, name_at, variable_at, ascribe_at, apply_at, call_at, Phrases, no_phrases, more_phrases}
 use Rattle.ath_declarations.specs.Texts.{meaning}
 use Rattle.ath_terms.specs.declared.fresh.Fresh.{Fresh}
-use Rattle.ath_terms.specs.declared.node.Conn.{Conn}
-use Rattle.ath_terms.specs.declared.node.Conn.TheVariants.{If}
-use Rattle.ath_terms.specs.SortsIn.{sort_in}
+use Rattle.ath_trees.specs.declared.node.Conn.{Conn}
+use Rattle.ath_trees.specs.declared.node.Binary.TheVariants.{If}
+use Rattle.ath_trees.specs.SortsIn.{sort_in}
 use Rattle.ath_terms.specs.Construction.{wanted, takes}
-use Rattle.ath_terms.specs.Tree.{Term, var, Sent, joined}
-use Rattle.ath_terms.specs.Same.{same_sent}
-use Rattle.ath_terms.proofs.SameLaws.{same_sent-true}
+use Rattle.ath_trees.specs.Tree.{Term, var, Sent, joined}
+use Rattle.ath_trees.specs.Same.{same_sent}
+use Rattle.ath_trees.proofs.SameLaws.{same_sent-true}
 use Rattle.ath_calculus.specs.Derives.{IsIn}
 use Rattle.ath_env.specs.Values.{Value, a_term, a_sentence, a_symbol, a_connective, a_quantifier, a_back, a_method, term_of, sentence_of}
 use Rattle.ath_env.specs.LookUp.{looked_up}

@@ -15,9 +15,9 @@ use Rattle.ath_sorts.proofs.SameSorts.{same_sort-true}
 use Rattle.ath_syntax.specs.declared.node.SortText.{SortText}
 use Rattle.ath_declarations.specs.Texts.{written_in, meaning}
 use Rattle.ath_declarations.proofs.Keeping.{meant_sort}
-use Rattle.ath_terms.specs.Tree.{Term, Sent, atom}
-use Rattle.ath_terms.specs.WellSorted.{is_valid_sort, HasSort, var_has, IsWellSorted}
-use Rattle.ath_terms.proofs.ValidSorts.{valid-var, use_valid}
+use Rattle.ath_trees.specs.Tree.{Term, Sent, atom}
+use Rattle.ath_trees.specs.WellSorted.{is_valid_sort, HasSort, var_has, IsWellSorted}
+use Rattle.ath_trees.proofs.ValidSorts.{valid-var, use_valid}
 use Rattle.ath_terms.proofs.ApplicationLaws.{found-name}
 use Rattle.ath_calculus.specs.Derives.{Derives, if_elim, IsIn}
 use Rattle.ath_calculus.specs.Laws.{Extends, AreIn}

@@ -1,13 +1,13 @@
 -- Values as the arguments of calls, and the parts of an implication.
 use Rattle.std.specs.Prelude.{ℕ, ◌≡◌, ◌<◌, ◌+◌, true, List, [], ◌∷◌, ◌++◌, Option, Some, None, length, map}
 use Rattle.ath_sorts.specs.declared.signature.Symbol.{Symbol}
-use Rattle.ath_terms.specs.declared.node.TermId.{TermId}
-use Rattle.ath_terms.specs.declared.node.SentId.{SentId}
-use Rattle.ath_terms.specs.declared.node.Conn.TheVariants.{If}
-use Rattle.ath_terms.specs.Tree.{Sent, atom, joined}
+use Rattle.ath_trees.specs.declared.node.TermId.{TermId}
+use Rattle.ath_trees.specs.declared.node.SentId.{SentId}
+use Rattle.ath_trees.specs.declared.node.Binary.TheVariants.{If}
+use Rattle.ath_trees.specs.Tree.{Sent, atom, joined}
 use Rattle.ath_terms.specs.Trees.{Trees, term_at, sent_at}
-use Rattle.ath_terms.specs.Measure.{IsSmall}
-use Rattle.ath_terms.specs.Under.{has_no_binder}
+use Rattle.ath_trees.specs.Measure.{IsSmall}
+use Rattle.ath_trees.specs.Under.{has_no_binder}
 use Rattle.ath_env.specs.declared.value.Value as value
 use Rattle.ath_env.specs.declared.value.Value.TheVariants as code
 use Rattle.ath_env.specs.Values.{Value, a_term, a_sentence, a_symbol, a_connective, a_quantifier, a_back, a_method, IsIn, value_at, IsValue}

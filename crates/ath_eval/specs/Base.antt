@@ -1,10 +1,10 @@
 -- The sentences of the assumption base.
 use Rattle.std.specs.Prelude.{◌<◌, List, map, length}
 use Rattle.std.specs.List.{All}
-use Rattle.ath_terms.specs.declared.node.SentId.{SentId}
-use Rattle.ath_terms.specs.Tree.{Sent}
+use Rattle.ath_trees.specs.declared.node.SentId.{SentId}
+use Rattle.ath_trees.specs.Tree.{Sent}
 use Rattle.ath_terms.specs.Trees.{Trees, sent_at}
-use Rattle.ath_terms.specs.Measure.{IsSmall}
+use Rattle.ath_trees.specs.Measure.{IsSmall}
 
 abbrev pub sents_of : Trees → List SentId → List Sent
 sents_of s ids = map (λ p. sent_at s.sents p.0) ids

@@ -7,16 +7,17 @@ use Rattle.ath_sorts.specs.declared.signature.Symbol.{Symbol}
 use Rattle.ath_sorts.specs.Signature.{Signature, boolean}
 use Rattle.ath_sorts.specs.Sorts.{image}
 use Rattle.ath_unifiers.specs.Unified.{Unified, solved, clashes, too_large, unified}
-use Rattle.ath_terms.specs.declared.node.Conn.{Conn}
-use Rattle.ath_terms.specs.Tree.{Term, Sent, atom}
+use Rattle.ath_trees.specs.declared.node.Conn.{Conn}
+use Rattle.ath_trees.specs.Tree.{Term, Sent, atom}
 use Rattle.ath_terms.specs.Trees.{Trees, term_at, sent_at, IsTermOf, IsSent}
-use Rattle.ath_terms.specs.Under.{has_no_binder}
+use Rattle.ath_trees.specs.Under.{has_no_binder}
 use Rattle.ath_terms.specs.declared.measure.BuildError.{BuildError}
 use Rattle.ath_terms.specs.declared.measure.BuildError.TheVariants as error
-use Rattle.ath_terms.specs.declared.node.SentId.{SentId}
-use Rattle.ath_terms.specs.declared.node.TermId.{TermId}
-use Rattle.ath_terms.specs.Measure.{most_nodes, most_levels, IsSmall}
-use Rattle.ath_terms.specs.SortsIn.{sort_in}
+use Rattle.ath_trees.specs.declared.node.SentId.{SentId}
+use Rattle.ath_trees.specs.declared.node.TermId.{TermId}
+use Rattle.ath_trees.specs.declared.limits.TheConstants.{MOST_TERM_NODES, MOST_TERM_LEVELS}
+use Rattle.ath_trees.specs.Measure.{IsSmall}
+use Rattle.ath_trees.specs.SortsIn.{sort_in}
 use Rattle.ath_terms.specs.Construction.{Plan, app_plan, equation_plan, ascription_plan, atom_plan, connective_plan, connected, takes, Measure, term_measure, sent_measure}
 use Rattle.ath_print.specs.declared.fault.FaultKind.TheVariants.{SortClash, ArgCount, NotBoolean, SortTooLarge, TooLarge, TooDeep, NotBuilt}
 use Rattle.ath_print.specs.Events.{Refusal, term_named, sort_named, number_named}
@@ -35,8 +36,8 @@ clash None = refusal NotBuilt []
 abbrev pub within : {T : Type 0} → T → Measure → Built T
 within x m =
     if m.small
-    then (if nat_lt most_nodes m.nodes then refuses (refusal TooLarge (number_named m.nodes ∷ []))
-    else if nat_lt most_levels m.levels then refuses (refusal TooDeep (number_named m.levels ∷ []))
+    then (if nat_lt MOST_TERM_NODES m.nodes then refuses (refusal TooLarge (number_named m.nodes ∷ []))
+    else if nat_lt MOST_TERM_LEVELS m.levels then refuses (refusal TooDeep (number_named m.levels ∷ []))
     else builds x)
     else refuses (refusal SortTooLarge [])
 

@@ -10,7 +10,7 @@ use Rattle.ath_syntax.specs.Tree.{Phrase, name_at, variable_at, string_at, list_
 use Rattle.ath_syntax.specs.declared.node.SortText.{SortText}
 use Rattle.ath_declarations.specs.Texts.{meaning}
 use Rattle.ath_terms.specs.declared.fresh.Fresh.{Fresh}
-use Rattle.ath_terms.specs.Tree.{Term, var}
+use Rattle.ath_trees.specs.Tree.{Term, var}
 use Rattle.ath_env.specs.Values.{Value, a_term, term_of}
 use Rattle.ath_env.specs.LookUp.{looked_up}
 use Rattle.ath_print.specs.declared.fault.FaultKind.TheVariants.{Unbound, TooNested, NotBuilt}

@@ -6,11 +6,11 @@ use Rattle.ath_sorts.specs.Signature.{Signature, arity_of}
 use Rattle.ath_sorts.specs.Validity.{IsValid}
 use Rattle.ath_syntax.specs.Tree.{Phrase}
 use Rattle.ath_declarations.specs.Laws.{Keeps}
-use Rattle.ath_terms.specs.Tree.{Term, Sent}
+use Rattle.ath_trees.specs.Tree.{Term, Sent}
 use Rattle.ath_terms.specs.Trees.{Trees}
 use Rattle.ath_terms.specs.SortsIn.{IsSortedIn}
 use Rattle.ath_terms.specs.declared.fresh.Fresh.{Fresh}
-use Rattle.ath_terms.specs.WellSorted.{HasSort, IsWellSorted}
+use Rattle.ath_trees.specs.WellSorted.{HasSort, IsWellSorted}
 use Rattle.ath_calculus.specs.Derives.{Derives, IsIn}
 use Rattle.ath_env.specs.Values.{Value, a_term, a_sentence, a_symbol, a_connective, a_quantifier, a_back, a_method}
 use Rattle.ath_eval.specs.Outcomes.{Context, Outcome, gives, concludes, fails, exhausts}

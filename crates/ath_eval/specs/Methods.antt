@@ -4,9 +4,9 @@ use Rattle.std.specs.Prelude.{ℕ, Bool, ◌==◌, List, [], ◌∷◌, Option, 
 use Rattle.std.specs.List.{list_any}
 use Rattle.ath_syntax.specs.declared.place.Pos.{Pos}
 use Rattle.ath_terms.specs.declared.fresh.Fresh.{Fresh}
-use Rattle.ath_terms.specs.declared.node.Conn.TheVariants.{Not, And, Or, If, Iff}
-use Rattle.ath_terms.specs.Tree.{Sent, atom, equal, negated, joined, bound}
-use Rattle.ath_terms.specs.Same.{same_sent}
+use Rattle.ath_trees.specs.declared.node.Binary.TheVariants.{And, Or, If, Iff}
+use Rattle.ath_trees.specs.Tree.{Sent, atom, equal, negated, joined, bound}
+use Rattle.ath_trees.specs.Same.{same_sent}
 use Rattle.ath_env.specs.Values.{Value, a_term, a_sentence, a_symbol, a_connective, a_quantifier, a_back, a_method, sentence_of}
 use Rattle.ath_print.specs.declared.fault.FaultKind.TheVariants.{WrongShape, NotInBase, NotMethod}
 use Rattle.ath_print.specs.Events.{sentence_named, number_named}
@@ -41,7 +41,6 @@ from_implication base p a b (Some q) = detached base p a b q
 -- the implication's shape is looked at before the other argument
 abbrev pub modus_ponens : List Sent → Sent → Option Sent → Pos → ℕ → Fresh → Outcome
 modus_ponens base (joined If a b) q = from_implication base (joined If a b) a b q
-modus_ponens base (joined Not a b) q = wrong_shape 1
 modus_ponens base (joined And a b) q = wrong_shape 1
 modus_ponens base (joined Or a b) q = wrong_shape 1
 modus_ponens base (joined Iff a b) q = wrong_shape 1

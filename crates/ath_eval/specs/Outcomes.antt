@@ -3,7 +3,7 @@ use Rattle.std.specs.Prelude.{ℕ, List, [], ◌∷◌, ◌++◌}
 use Rattle.ath_sorts.specs.Signature.{Signature}
 use Rattle.ath_syntax.specs.declared.place.Pos.{Pos}
 use Rattle.ath_syntax.specs.Tree.{Phrase, Phrases, no_phrases, more_phrases}
-use Rattle.ath_terms.specs.Tree.{Sent}
+use Rattle.ath_trees.specs.Tree.{Sent}
 use Rattle.ath_terms.specs.declared.fresh.Fresh.{Fresh}
 use Rattle.ath_env.specs.Values.{Value, a_sentence}
 use Rattle.ath_print.specs.declared.fault.FaultKind.{FaultKind}

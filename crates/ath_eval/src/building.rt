@@ -2,7 +2,7 @@
 
 ghost use Rattle.std.specs.Prelude.{IfOk};
 ghost use Rattle.ath_sorts.specs.Signature.{Signature as Declared};
-ghost use Rattle.ath_terms.specs.Tree.{Term, Sent};
+ghost use Rattle.ath_trees.specs.Tree.{Term, Sent};
 ghost use Rattle.ath_terms.specs.Trees.{Trees};
 ghost use Rattle.ath_eval.specs.Applying.{gives_term, gives_sentence};
 ghost use Rattle.ath_eval.specs.Building.{Built, IsTermBuilt, IsSentBuilt};
@@ -12,7 +12,8 @@ use crate::refusals::unbuilt;
 use crate::world::Outcome;
 use ath_env::Value;
 use ath_syntax::Pos;
-use ath_terms::{BuildError, SentId, TermId};
+use ath_terms::BuildError;
+use ath_trees::{SentId, TermId};
 use std::alloc::{AllocError, Global};
 
 /// The outcome of a term's construction.

@@ -4,7 +4,7 @@ ghost use Rattle.std.specs.Prelude.{◌≡◌, ◌<◌, ◌≤◌, ◌+◌, ◌^
 ghost use Rattle.std.specs.List.{All};
 ghost use Rattle.ath_sorts.specs.declared.sorts.Sym.{Sym as Symbol};
 ghost use Rattle.ath_sorts.specs.Signature.{Signature as Declared};
-ghost use Rattle.ath_terms.specs.declared.node.Conn.{Conn as Connective};
+ghost use Rattle.ath_trees.specs.declared.node.Conn.{Conn as Connective};
 ghost use Rattle.ath_terms.specs.SortsIn.{IsSortedIn};
 ghost use Rattle.ath_terms.specs.Trees.{Trees, Grows};
 ghost use Rattle.ath_env.specs.Values.{Value as Tree};
@@ -26,7 +26,8 @@ use ath_env::Value;
 use ath_print::FaultKind;
 use ath_sorts::Signature;
 use ath_syntax::Pos;
-use ath_terms::{Fresh, SentId, Store};
+use ath_terms::{Fresh, Store};
+use ath_trees::SentId;
 use std::alloc::{AllocError, Global};
 
 /// An application to these arguments.

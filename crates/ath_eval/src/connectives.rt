@@ -18,7 +18,8 @@ use crate::world::Outcome;
 use ath_env::Value;
 use ath_print::FaultKind;
 use ath_syntax::Pos;
-use ath_terms::{BuildError, Conn, SentId, Store};
+use ath_terms::{BuildError, Store};
+use ath_trees::{Conn, SentId};
 use std::alloc::{AllocError, Global};
 
 /// Whether a connective takes so many parts.

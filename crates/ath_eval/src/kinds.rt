@@ -4,7 +4,7 @@ ghost use Rattle.std.specs.Prelude.{IfOk};
 ghost use Rattle.ath_eval.specs.Arguments.{MatchTerms, MatchPiece, MatchParts};
 
 use ath_env::Value;
-use ath_terms::{SentId, TermId};
+use ath_trees::{SentId, TermId};
 use std::alloc::{AllocError, Global};
 
 /// Arguments that are terms, or the number of the first that is none, from 1.

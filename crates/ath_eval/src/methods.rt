@@ -16,7 +16,8 @@ use ath_env::{Value, sentence};
 use ath_print::FaultKind;
 use ath_syntax::Pos;
 use ath_terms::equality::is_same_sent;
-use ath_terms::{Conn, SentId, SentNode, Store};
+use ath_terms::{SentNode, Store};
+use ath_trees::{Conn, SentId};
 use std::alloc::{AllocError, Global};
 
 /// Whether the base has a sentence.

@@ -4,7 +4,7 @@ ghost use Rattle.std.specs.Prelude.{◌≡◌, ◌<◌, ◌≤◌, ◌+◌, ◌^
 ghost use Rattle.ath_sorts.specs.Signature.{Signature as Declared, symbol_of};
 ghost use Rattle.ath_terms.specs.Trees.{Trees, Grows};
 ghost use Rattle.ath_terms.specs.SortsIn.{IsSortedIn};
-ghost use Rattle.ath_terms.specs.WellSorted.{is_valid_sort};
+ghost use Rattle.ath_trees.specs.WellSorted.{is_valid_sort};
 ghost use Rattle.ath_env.specs.LookUp.{looked_up};
 ghost use Rattle.ath_env.specs.Values.{Value as Tree, IsValue, value_at};
 ghost use Rattle.ath_eval.specs.Applying.{symbol_named, value_named};
@@ -25,7 +25,8 @@ use ath_print::FaultKind;
 use ath_sorts::sorts::copied;
 use ath_sorts::{Signature, Sort, Sym};
 use ath_syntax::{Pos, SortText};
-use ath_terms::{Fresh, Store, TermId, TermNode, Var};
+use ath_terms::{Fresh, Store, TermNode};
+use ath_trees::{TermId, Var};
 use std::alloc::{AllocError, Global};
 
 /// The value of a symbol's name. A symbol without arguments is applied to none.

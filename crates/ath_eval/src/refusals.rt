@@ -17,7 +17,8 @@ use crate::world::Outcome;
 use ath_print::{Fault, FaultArg, FaultKind};
 use ath_sorts::{SigError, Sym};
 use ath_syntax::Pos;
-use ath_terms::{BuildError, SentId};
+use ath_terms::BuildError;
+use ath_trees::SentId;
 use std::alloc::{AllocError, Global};
 
 /// An error that names nothing.

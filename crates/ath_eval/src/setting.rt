@@ -3,7 +3,7 @@
 use ath_names::Names;
 use ath_sorts::Signature;
 use ath_syntax::Phrases;
-use ath_terms::SentId;
+use ath_trees::SentId;
 
 /// The names, what is declared, the nodes of phrases, and the assumption base.
 #[derive(Clone, Copy)]

@@ -8,7 +8,8 @@ use ath_names::Names;
 use ath_print::Fault;
 use ath_sorts::Signature;
 use ath_syntax::{Phrases, Pos};
-use ath_terms::{Fresh, SentId, Store};
+use ath_terms::{Fresh, Store};
+use ath_trees::SentId;
 
 /// The state of a run: the names, what is declared, the nodes of sentences and of phrases, the assumption base with its
 /// oldest sentence first, the steps that are left, and the counters of fresh names.

@@ -1,17 +1,17 @@
-pub mod Agrees
-pub mod DirectiveAgrees
-pub mod DirectiveParts
-pub mod DirectiveReady
-pub mod Expects
-pub mod Handed
-pub mod Least
-pub mod Meaning
-pub mod PhraseComplete
-pub mod PhraseReady
-pub mod PhraseSound
-pub mod Ready
-pub mod Runs
-pub mod SmallParts
-pub mod SmallReady
-pub mod Steps
-pub mod Whole
+pub mod Added
+mod Classes
+mod Clean
+mod Completes
+mod Joins
+pub mod LevelLaws
+mod ProperActions
+pub mod ProperRead
+mod ProperRuns
+mod ProperTable
+mod ProperTypes
+pub mod Readings
+mod Ready
+mod Runs
+mod Steps
+mod Typed
+pub mod TypedTable

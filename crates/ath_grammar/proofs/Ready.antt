@@ -1,169 +1,183 @@
--- Each state that is reached can be completed.
-use Rattle.std.proofs.Common.{◌≡◌, ℕ, suc, ◌-◌, List, [], ◌∷◌, ◌++◌, Bool, false, refl, sym, ap, subst}
-use Rattle.ath_syntax.specs.Tree.{DirectiveTree}
-use Rattle.ath_grammar.specs.Tokens.{Placed, starts, is_bar}
-use Rattle.ath_grammar.specs.Rules.{Kind, a_directive, Value, Part, directive_part, Rule, done, refuse, token, peek, goto, push, check, deeper, shallower}
-use Rattle.ath_grammar.specs.DirectiveRules.{first}
-use Rattle.ath_grammar.specs.Machine.{Stack, bottom, frame, Config, whole, waits, lingers, Outcome, no, on, over, also, settled, deliver, taken, handed, step, beginning}
-use Rattle.ath_grammar.proofs.Meaning.{wholly, Means}
-use Rattle.ath_grammar.proofs.Steps.{Resumes, Continues, Agrees}
+-- Each symbol of the grammar can be completed: a class for each, and a token of each class.
+use Rattle.std.proofs.Common.{◌≡◌, ℕ, ◌+◌, ◌≤◌, List, [], ◌∷◌, Bool, true, false, not, ◌||◌, Option, Some, None, refl, ap, arith}
+use Rattle.std.specs.List.{list_any}
+use Rattle.std.proofs.lemmas.Bool.{ne_eqb}
+use Rattle.ath_sorts.specs.declared.sorts.Sym.{Sym}
+use Rattle.ath_syntax.specs.Fits.{same_name}
+use Rattle.ath_grammar.specs.declared.class.WordClass.TheVariants.{Plain}
+use Rattle.ath_grammar.specs.declared.class.Opener.TheVariants as O
+use Rattle.ath_grammar.specs.declared.class.Mark.TheVariants as M
+use Rattle.ath_grammar.specs.declared.class.Class.{Class}
+use Rattle.ath_grammar.specs.declared.class.Class.TheVariants as C
+use Rattle.ath_grammar.specs.declared.lexeme.Lexeme.{Lexeme}
+use Rattle.ath_grammar.specs.declared.lexeme.Lexeme.TheVariants as L
+use Rattle.ath_grammar.specs.declared.symbol.Symbol.{Symbol}
+use Rattle.ath_grammar.specs.declared.symbol.Symbol.TheVariants as S
+use Rattle.ath_grammar.specs.declared.action.Action.{Action}
+use Rattle.ath_grammar.specs.declared.action.Guard.{Guard}
+use Rattle.ath_grammar.specs.declared.action.Guard.TheVariants.{Free, New}
+use Rattle.ath_grammar.specs.declared.item.Want.{Want}
+use Rattle.ath_grammar.specs.declared.item.Want.TheVariants.{Any, Only}
+use Rattle.ath_grammar.specs.Tokens.{Placed, at, class_of, next_class}
+use Rattle.ath_grammar.specs.Tables.{skip}
+use Rattle.ath_grammar.specs.Grammar.{grammar}
+use Rattle.ath_grammar.specs.Trees.{Value, no_place, v1, seen, may_stand, trees}
+use Rattle.ath_grammar.proofs.Completes.{Witness, Ends, ready}
+use Rattle.ath_grammar.proofs.Classes.{holds_of_all, every}
+use Rattle.ath_grammar.proofs.Clean.{clean_row}
 
--- the tokens behind a directive; those behind anything else don't matter
-abbrev pub Rests : Kind → List Placed → Type 0
-Rests a_directive r = starts is_bar r ≡ false
-Rests _ r = Unit {0}
+-- a token of a class, and of this name where it has one
+abbrev some : Class → Sym → Lexeme
+some (C.Word w) n = L.Word w n
+some C.Wild n = L.Wild n
+some C.SomeOf n = L.SomeOf n
+some C.Variable n = L.Variable n 0
+some C.SortVariable n = L.SortVariable n
+some C.Text n = L.Text []
+some (C.Opener o) n = L.Opener o
+some (C.Directive d) n = L.Directive d
+some (C.Mark m) n = L.Mark m
 
-abbrev pub NotDirective : Kind → Type 0
-NotDirective a_directive = ⊥
-NotDirective _ = Unit {0}
+pub some_class : (c : Class) (n : Sym) → class_of (at no_place (some c n)) ≡ c
+some_class (C.Word w) n = refl
+some_class C.Wild n = refl
+some_class C.SomeOf n = refl
+some_class C.Variable n = refl
+some_class C.SortVariable n = refl
+some_class C.Text n = refl
+some_class (C.Opener o) n = refl
+some_class (C.Directive d) n = refl
+some_class (C.Mark m) n = refl
 
-pub any_rests : (k : Kind) → NotDirective k → (r : List Placed) → Rests k r
-any_rests a_directive h r = absurd h
-any_rests _ h r = tt
+-- a number above all these names
+abbrev above : List Sym → ℕ
+above [] = 0
+above (m ∷ ms) = m.0 + above ms + 1
 
--- some tokens complete what the rule says, whatever comes behind them
-abbrev pub Ends : {k : Kind} → Bool → Rule k → Type 0
-Ends {k} a p = (ts : List Placed) × (v : Value k) × ((r : List Placed) → Rests k r → Means a p (ts ++ r) v r)
+is_new : (n : ℕ) (ns : List Sym) → above ns ≤ n → list_any (same_name (record { 0 = n })) ns ≡ false
+is_new n [] h = refl
+is_new n (m ∷ ms) h = or_false (same_name (record { 0 = n }) m) (list_any (same_name (record { 0 = n })) ms) (ne_eqb n m.0 (λ e. omega (arith, e, h))) (is_new n ms (omega (arith, h)))
+  where
+    or_false : (b c : Bool) → b ≡ false → c ≡ false → (b || c) ≡ false
+    or_false true c e k = cc
+    or_false false c e k = k
 
--- A rule is solid where it can be completed, and so can all that it leads to; it is fine where that holds unless it
--- refuses.
-abbrev mutual
-  pub Solid : {k : Kind} → Bool → Rule k → Type 0
-  Solid a (done v) = Unit {0}
-  Solid a refuse = ⊥
-  Solid a (token f) = ((t : Placed) → Fine a (f t)) × Ends a (token f)
-  Solid a (peek f q) = ((t : Placed) → Fine a (f t)) × Ends a (peek f q)
-  Solid a (goto m) = Unit {0}
-  Solid a (push {j = j} k p) = NotDirective j × Solid a p × ((v : Value j) → Solid a (k v))
-  Solid a (check b p) = ⊥
-  Solid a (deeper p) = Solid a p
-  Solid a (shallower p) = Solid a p
+abbrev new_name : List Value → Sym
+new_name vs = record { 0 = above (seen (v1 vs)) }
 
-  pub Fine : {k : Kind} → Bool → Rule k → Type 0
-  Fine a (done v) = Unit {0}
-  Fine a refuse = Unit {0}
-  Fine a (token f) = ((t : Placed) → Fine a (f t)) × Ends a (token f)
-  Fine a (peek f q) = ((t : Placed) → Fine a (f t)) × Ends a (peek f q)
-  Fine a (goto m) = Unit {0}
-  Fine a (push {j = j} k p) = NotDirective j × Fine a p × ((v : Value j) → Solid a (k v))
-  Fine a (check b p) = Fine a p
-  Fine a (deeper p) = Fine a p
-  Fine a (shallower p) = Fine a p
+new_stands : (vs : List Value) → not (list_any (same_name (new_name vs)) (seen (v1 vs))) ≡ true
+new_stands vs = ap (λ (b : Bool). not b) (is_new (above (seen (v1 vs))) (seen (v1 vs)) (omega arith))
 
--- the rules of the parts are fine, and each part can be completed
-pub record IsReady (a : Bool) : Type 0 where
-  pub fine : {k : Kind} (m : Part k) (t : Placed) → Fine a (first m t)
-  pub least : {k : Kind} (m : Part k) → Ends a (goto m)
+abbrev suited : Guard → Class → Bool
+suited Free c = true
+suited New (C.Word w) = true
+suited New C.SortVariable = true
+suited New _ = false
 
-pub append_assoc : (xs ys zs : List Placed) → (xs ++ ys) ++ zs ≡ xs ++ (ys ++ zs)
-append_assoc [] ys zs = refl
-append_assoc (x ∷ xs) ys zs = ap (λ (us : List Placed). x ∷ us) (append_assoc xs ys zs)
+pub token_stands : (g : Guard) (c : Class) (vs : List Value) → suited g c ≡ true → may_stand g (at no_place (some c (new_name vs))) vs ≡ true
+token_stands Free c vs e = refl
+token_stands New (C.Word w) vs e = new_stands vs
+token_stands New C.SortVariable vs e = new_stands vs
+token_stands New C.Wild vs e = cc
+token_stands New C.SomeOf vs e = cc
+token_stands New C.Variable vs e = cc
+token_stands New C.Text vs e = cc
+token_stands New (C.Opener o) vs e = cc
+token_stands New (C.Directive d) vs e = cc
+token_stands New (C.Mark m) vs e = cc
 
--- first one rule and then the next
-pub ends_push : {j k : Kind} (a : Bool) (f : Value j → Rule k) (p : Rule j) → NotDirective j → Ends a p → ((v : Value j) → Ends a (f v)) → Ends a (push f p)
-ends_push {j} a f p n e g = let (us, x, more) = g e.1 in
-    (e.0 ++ us, x, λ r h. (e.1, us ++ r, subst (λ (ts : List Placed). Means a p ts e.1 (us ++ r)) (sym (append_assoc e.0 us r)) (e.2 (us ++ r) (any_rests j n (us ++ r))), more r h))
+abbrev pub tokens : Witness trees
+tokens = record { suits = suited; token = λ g c vs. at no_place (some c (new_name vs)); of_class = λ g c vs. some_class c (new_name vs); stands = token_stands }
 
--- by this token
-pub ends_token : {k : Kind} (a : Bool) (f : Placed → Rule k) (t : Placed) → Ends a (f t) → Ends a (token f)
-ends_token a f t (ts, v, means) = (t ∷ ts, v, means)
+pub free_suits : (c : Class) → tokens.suits Free c ≡ true
+free_suits c = refl
 
-module _ (a : Bool) (least : (k : Kind) (m : Part k) → Ends a (goto m)) where
-  pub ends : {k : Kind} (p : Rule k) → Solid a p → Ends a p
-  ends (done v) s = ([], v, λ r h. wholly)
-  ends refuse s = absurd s
-  ends (token f) s = s.1
-  ends (peek f q) s = s.1
-  ends {k} (goto m) s = least k m
-  ends (push f p) s = ends_push a f p s.0 (ends p s.1) (λ v. ends (f v) (s.2 v))
-  ends (check b p) s = absurd s
-  ends (deeper p) s = ends p s
-  ends (shallower p) s = ends p s
+-- the rows of a `datatype` end by what isn't `|`
+abbrev is_bar : Class → Bool
+is_bar (C.Mark M.Bar) = true
+is_bar _ = false
 
-module _ (a : Bool) where
-  pub fine_solid : {k : Kind} (p : Rule k) → Solid a p → Fine a p
-  fine_solid (done v) s = tt
-  fine_solid refuse s = absurd s
-  fine_solid (token f) s = s
-  fine_solid (peek f q) s = s
-  fine_solid (goto m) s = tt
-  fine_solid (push f p) s = (s.0, fine_solid p s.1, s.2)
-  fine_solid (check b p) s = absurd s
-  fine_solid (deeper p) s = fine_solid p s
-  fine_solid (shallower p) s = fine_solid p s
+abbrev ending : Symbol → Option (List Action)
+ending S.ConstructorRows = Some []
+ending _ = None
 
-abbrev pub Holds : {k : Kind} → Bool → Stack k → Type 0
-Holds a bottom = Unit {0}
-Holds a (frame {j = j} f ks) = NotDirective j × ((v : Value j) → Solid a (f v)) × Holds a ks
+rows_end : (c : Class) → is_bar c ≡ false → grammar S.ConstructorRows c ≡ skip Any []
+rows_end (C.Mark M.Bar) e = cc
+rows_end _ e = refl
 
-abbrev pub Stands : Bool → Config → Type 0
-Stands a (whole d) = Unit {0}
-Stands a (waits l f ks) = ((t : Placed) → Fine a (f t)) × Ends a (token f) × Holds a ks
-Stands a (lingers l f q ks) = ((t : Placed) → Fine a (f t)) × Ends a (peek f q) × Holds a ks
+pub by_end : (s : Symbol) (xs : List Action) → ending s ≡ Some xs → (c : Class) → is_bar c ≡ false → grammar s c ≡ skip Any xs
+by_end S.ConstructorRows [] e c h = rows_end c h
+by_end S.ConstructorRows (x ∷ xs) e c h = cc
+by_end S.Directive xs e c h = cc
+by_end _ xs e c h = cc
 
-abbrev pub Leads : Bool → Outcome → Type 0
-Leads a no = Unit {0}
-Leads a (on b st) = Stands a st
-Leads a (over b d) = Unit {0}
+abbrev pub ends : Ends grammar
+ends = record { avoids = is_bar; actions = ending; by_skip = by_end; at_end = refl }
 
-leads_also : (a b : Bool) (o : Outcome) → Leads a o → Leads a (also b o)
-leads_also a b no h = h
-leads_also a b (on c st) h = h
-leads_also a b (over c d) h = h
+-- the class with which a symbol is completed soonest
+abbrev pub easy : Symbol → Want → Class
+easy S.Phrase (Only true) = C.Opener O.Open
+easy S.Inside (Only true) = C.Mark M.Bang
+easy S.Binders (Only true) = C.Opener O.Open
+easy S.Binders w = C.Text
+easy S.AfterBinder (Only true) = C.Opener O.Open
+easy S.AfterBinder w = C.Text
+easy S.AfterFirstBinder (Only true) = C.Opener O.Open
+easy S.AfterFirstBinder w = C.Text
+easy S.VariableSort w = C.Mark M.Colon
+easy S.HypothesisName w = C.Mark M.Becomes
+easy S.DeclaredNames w = C.Mark M.Colon
+easy S.BranchRow w = C.Mark M.Else
+easy S.BranchInside w = C.Mark M.Else
+easy S.SquareSorts w = C.Mark M.CloseBracket
+easy S.SquarePatterns w = C.Mark M.CloseBracket
+easy S.SquareParts w = C.Mark M.CloseBracket
+easy S.Sequence w = C.Mark M.CloseBrace
+easy S.LetRows w = C.Mark M.CloseBrace
+easy S.LetRecRows w = C.Mark M.CloseBrace
+easy S.ClauseRows w = C.Mark M.CloseBrace
+easy S.BranchRows w = C.Mark M.CloseBrace
+easy S.Alternatives w = C.Mark M.CloseBrace
+easy S.Let w = C.Opener O.OpenBrace
+easy S.LetRec w = C.Opener O.OpenBrace
+easy S.Clauses w = C.Opener O.OpenBrace
+easy S.ClausesInside w = C.Opener O.OpenBrace
+easy S.Check w = C.Opener O.OpenBrace
+easy S.CheckInside w = C.Opener O.OpenBrace
+easy S.Try w = C.Opener O.OpenBrace
+easy S.TryInside w = C.Opener O.OpenBrace
+easy S.Lambda w = C.Opener O.Open
+easy S.Method w = C.Opener O.Open
+easy S.Closure w = C.Opener O.Lambda
+easy S.ClosureInside w = C.Opener O.Lambda
+easy S.Constructors w = C.Mark M.Close
+easy S.GroupNames w = C.Mark M.Close
+easy S.Sorts w = C.Mark M.Close
+easy S.Patterns w = C.Mark M.Close
+easy S.Parameters w = C.Mark M.Close
+easy S.SortVariables w = C.Mark M.Close
+easy S.AfterOperator w = C.Mark M.Close
+easy S.AfterWord w = C.Mark M.Close
+easy S.AfterFirst w = C.Mark M.Close
+easy S.Parts w = C.Mark M.Close
+easy S.LetPairs w = C.Mark M.Close
+easy S.LetRecPairs w = C.Mark M.Close
+easy S.ClausePairs w = C.Mark M.Close
+easy S.BranchPairs w = C.Mark M.Close
+easy _ w = C.Word Plain
 
-module _ (a : Bool) (ready : IsReady a) (agrees : Agrees a) where
-  part_ends : {k : Kind} (m : Part k) → Ends a (token (first m))
-  part_ends m = let (ts, v, spells) = ready.least m in (ts, v, λ r h. agrees.complete m (ts ++ r) v r (spells r h))
+pub all_ready : (s : Symbol) (w : Want) → ready tokens.suits grammar ends easy 8 s w ≡ true
+all_ready S.Directive Any = refl
+all_ready S.Directive (Only false) = refl
+all_ready S.Directive (Only true) = refl
+all_ready _ Any = refl
+all_ready _ (Only false) = refl
+all_ready _ (Only true) = refl
 
-  settled_leads : {k : Kind} (p : Rule k) (l : ℕ) (ks : Stack k) (j : Value k → ℕ → Outcome) → Fine a p → Holds a ks → ((v : Value k) (m : ℕ) → Leads a (j v m)) → Leads a (settled p l ks j)
-  settled_leads (done v) l ks j s h g = g v l
-  settled_leads refuse l ks j s h g = tt
-  settled_leads (token f) l ks j s h g = (s.0, s.1, h)
-  settled_leads (peek f q) l ks j s h g = (s.0, s.1, h)
-  settled_leads (goto m) l ks j s h g = (ready.fine m, part_ends m, h)
-  settled_leads (push f p) l ks j s h g = settled_leads p l (frame f ks) (λ v m. settled (f v) m ks j) s.1 (s.0, s.2, h) (λ v m. settled_leads (f v) m ks j (fine_solid a (f v) (s.2 v)) h g)
-  settled_leads (check b p) l ks j s h g = leads_also a b (settled p l ks j) (settled_leads p l ks j s h g)
-  settled_leads (deeper p) l ks j s h g = settled_leads p (suc l) ks j s h g
-  settled_leads (shallower p) l ks j s h g = settled_leads p (l - 1) ks j s h g
+-- no row has the item `|`
+row_clean : (s : Symbol) → holds_of_all (λ c. clean_row is_bar (grammar s c)) ≡ true
+row_clean S.Directive = refl
+row_clean _ = refl
 
-  deliver_leads : {k : Kind} (ks : Stack k) (v : Value k) (l : ℕ) → Holds a ks → Leads a (deliver ks v l)
-  deliver_leads bottom v l h = tt
-  deliver_leads (frame f ks) v l h = settled_leads (f v) l ks (deliver ks) (fine_solid a (f v) (h.1 v)) h.2 (λ u m. deliver_leads ks u m h.2)
-
-  taken_leads : {k : Kind} (t : Placed) (p : Rule k) (l : ℕ) (ks : Stack k) (j : Value k → ℕ → Outcome) → Fine a p → Holds a ks → ((v : Value k) (m : ℕ) → Leads a (j v m)) → Leads a (taken t p l ks j)
-  taken_leads t (done v) l ks j s h g = g v l
-  taken_leads t refuse l ks j s h g = tt
-  taken_leads t (token f) l ks j s h g = settled_leads (f t) l ks (deliver ks) (s.0 t) h (λ v m. deliver_leads ks v m h)
-  taken_leads t (peek f q) l ks j s h g = taken_leads t (f t) l ks j (s.0 t) h g
-  taken_leads t (goto m) l ks j s h g = settled_leads (first m t) l ks (deliver ks) (ready.fine m t) h (λ v m. deliver_leads ks v m h)
-  taken_leads t (push f p) l ks j s h g = taken_leads t p l (frame f ks) (λ v m. taken t (f v) m ks j) s.1 (s.0, s.2, h) (λ v m. taken_leads t (f v) m ks j (fine_solid a (f v) (s.2 v)) h g)
-  taken_leads t (check b p) l ks j s h g = leads_also a b (taken t p l ks j) (taken_leads t p l ks j s h g)
-  taken_leads t (deeper p) l ks j s h g = taken_leads t p (suc l) ks j s h g
-  taken_leads t (shallower p) l ks j s h g = taken_leads t p (l - 1) ks j s h g
-
-  handed_leads : {k : Kind} (t : Placed) (ks : Stack k) (v : Value k) (l : ℕ) → Holds a ks → Leads a (handed t ks v l)
-  handed_leads t bottom v l h = tt
-  handed_leads t (frame f ks) v l h = taken_leads t (f v) l ks (handed t ks) (fine_solid a (f v) (h.1 v)) h.2 (λ u m. handed_leads t ks u m h.2)
-
-  pub step_leads : (st : Config) (t : Placed) → Stands a st → Leads a (step st t)
-  step_leads (whole d) t h = tt
-  step_leads (waits l f ks) t h = settled_leads (f t) l ks (deliver ks) (h.0 t) h.2 (λ v m. deliver_leads ks v m h.2)
-  step_leads (lingers l f q ks) t h = taken_leads t (f t) l ks (handed t ks) (h.0 t) h.2 (λ v m. handed_leads t ks v m h.2)
-
-  Finishes : {k : Kind} → Stack k → Value k → Type 0
-  Finishes {k} ks v = (ts : List Placed) × (d : DirectiveTree) × Resumes a ks v ts d [] × Rests k ts
-
-  finishes : {k : Kind} (ks : Stack k) (v : Value k) → Holds a ks → Finishes ks v
-  unfolding Finishes
-  finishes bottom v h = ([], v, wholly, refl)
-  finishes (frame {j = j} f ks) v h = let (ts, u, means) = ends a (λ k m. ready.least m) (f v) (h.1 v) in let (us, d, k, rest) = finishes ks u h.2 in
-      (ts ++ us, d, (u, us, means us rest, k), any_rests j h.0 (ts ++ us))
-
-  pub state_ends : (st : Config) → Stands a st → (ts : List Placed) × (d : DirectiveTree) × Continues a st ts d []
-  unfolding Finishes
-  state_ends (whole d) h = ([], d, wholly)
-  state_ends (waits l f ks) h = let (ts, u, means) = h.1 in let (us, d, k, rest) = finishes ks u h.2 in (ts ++ us, d, (u, us, means us rest, k))
-  state_ends (lingers l f q ks) h = let (ts, u, means) = h.1 in let (us, d, k, rest) = finishes ks u h.2 in (ts ++ us, d, (u, us, means us rest, k))
-
-  pub beginning_stands : Stands a beginning
-  beginning_stands = (ready.fine directive_part, part_ends directive_part, tt)
+pub all_clean : (s : Symbol) (c : Class) → clean_row is_bar (grammar s c) ≡ true
+all_clean s c = every (λ d. clean_row is_bar (grammar s d)) (row_clean s) c

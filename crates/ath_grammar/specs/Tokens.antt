@@ -1,86 +1,110 @@
--- Tokens with their places, and what the first of a list tells.
-use Rattle.std.specs.Prelude.{List, [], ◌∷◌, Bool, true, false, ◌==◌, if◌then◌else◌}
-use Rattle.ath_sorts.specs.declared.sorts.Sym.{Sym}
+-- Tokens with their places, and their classes.
+use Rattle.std.specs.Prelude.{ℕ, List, [], ◌∷◌, Bool}
+use Rattle.std.specs.Bool.{nat_eq}
 use Rattle.ath_syntax.specs.declared.place.Pos.{Pos}
-use Rattle.ath_grammar.specs.declared.lexeme.FormWord.TheVariants.{Begin}
-use Rattle.ath_grammar.specs.declared.lexeme.WordClass.TheVariants.{Plain, Infix, Tilde}
+use Rattle.ath_grammar.specs.declared.class.WordClass.{WordClass}
+use Rattle.ath_grammar.specs.declared.class.WordClass.TheVariants as W
+use Rattle.ath_grammar.specs.declared.class.Opener.{Opener}
+use Rattle.ath_grammar.specs.declared.class.Opener.TheVariants as O
+use Rattle.ath_grammar.specs.declared.class.DirectiveWord.{DirectiveWord}
+use Rattle.ath_grammar.specs.declared.class.DirectiveWord.TheVariants as D
+use Rattle.ath_grammar.specs.declared.class.Mark.{Mark}
+use Rattle.ath_grammar.specs.declared.class.Mark.TheVariants as M
+use Rattle.ath_grammar.specs.declared.class.Class.{Class}
+use Rattle.ath_grammar.specs.declared.class.Class.TheVariants as C
 use Rattle.ath_grammar.specs.declared.lexeme.Lexeme.{Lexeme}
-use Rattle.ath_grammar.specs.declared.lexeme.Lexeme.TheVariants.{Word, Form, Unequal, Var, Str, Becomes, Open, OpenBracket, OpenBrace, Bar, Colon}
+use Rattle.ath_grammar.specs.declared.lexeme.Lexeme.TheVariants as L
 
 pub data Placed : Type 0 where
   at : Pos → Lexeme → Placed
 
--- whether a token begins a phrase; `dbegin` does so only behind a bracket
-abbrev pub begins_phrase : Lexeme → Bool
-begins_phrase (Word c n) = true
-begins_phrase (Form Begin) = false
-begins_phrase (Form k) = true
-begins_phrase (Var x k) = true
-begins_phrase (Str s) = true
-begins_phrase Open = true
-begins_phrase OpenBracket = true
-begins_phrase OpenBrace = true
-begins_phrase _ = false
+abbrev pub class_of_lexeme : Lexeme → Class
+class_of_lexeme (L.Word w n) = C.Word w
+class_of_lexeme (L.Wild n) = C.Wild
+class_of_lexeme (L.SomeOf n) = C.SomeOf
+class_of_lexeme (L.Variable n k) = C.Variable
+class_of_lexeme (L.SortVariable n) = C.SortVariable
+class_of_lexeme (L.Text s) = C.Text
+class_of_lexeme (L.Opener o) = C.Opener o
+class_of_lexeme (L.Directive d) = C.Directive d
+class_of_lexeme (L.Mark m) = C.Mark m
 
--- the operators of infix contents
-abbrev pub is_operator : Lexeme → Bool
-is_operator (Word Infix n) = true
-is_operator (Word Tilde n) = true
-is_operator Unequal = true
-is_operator Bar = true
-is_operator _ = false
+abbrev pub class_of : Placed → Class
+class_of (at p t) = class_of_lexeme t
 
--- whether a token may be the first of a parenthesis that is no form: a keyword owns its pair, and `~` would be infix
-abbrev pub is_first_item : Lexeme → Bool
-is_first_item (Form k) = false
-is_first_item (Word Tilde n) = false
-is_first_item _ = true
+-- the class of the next token; behind the last it is one that begins nothing
+abbrev pub next_class : List Placed → Class
+next_class [] = C.Mark M.Other
+next_class (t ∷ ts) = class_of t
 
-abbrev pub is_word : Lexeme → Bool
-is_word (Word c n) = true
-is_word _ = false
+-- classes by numbers
+abbrev pub word_code : WordClass → ℕ
+word_code W.Plain = 0
+word_code W.Dotted = 1
+word_code W.Logical = 2
+word_code W.Infix = 3
+word_code W.Tilde = 4
+word_code W.Back = 5
 
--- a name that can be bound: it isn't reserved and has no dot
-abbrev pub is_name : Lexeme → Bool
-is_name (Word Plain n) = true
-is_name _ = false
+abbrev pub opener_code : Opener → ℕ
+opener_code O.Open = 11
+opener_code O.OpenBracket = 12
+opener_code O.OpenBrace = 13
+opener_code O.Lambda = 14
+opener_code O.Method = 15
+opener_code O.Let = 16
+opener_code O.LetDeduction = 17
+opener_code O.LetRec = 18
+opener_code O.Match = 19
+opener_code O.MatchDeduction = 20
+opener_code O.Induct = 21
+opener_code O.Cases = 22
+opener_code O.Check = 23
+opener_code O.Try = 24
+opener_code O.Begin = 25
+opener_code O.Assume = 26
+opener_code O.Absurd = 27
+opener_code O.Conclude = 28
+opener_code O.PickAny = 29
+opener_code O.PickWitness = 30
 
-abbrev pub is_colon : Lexeme → Bool
-is_colon Colon = true
-is_colon _ = false
+abbrev pub directive_code : DirectiveWord → ℕ
+directive_code D.Domain = 31
+directive_code D.Datatype = 32
+directive_code D.Declare = 33
+directive_code D.Define = 34
+directive_code D.Assert = 35
+directive_code D.AssertClosed = 36
+directive_code D.Load = 37
 
-abbrev pub is_brace : Lexeme → Bool
-is_brace OpenBrace = true
-is_brace _ = false
+abbrev pub mark_code : Mark → ℕ
+mark_code M.Close = 38
+mark_code M.CloseBracket = 39
+mark_code M.CloseBrace = 40
+mark_code M.Bar = 41
+mark_code M.Comma = 42
+mark_code M.Semicolon = 43
+mark_code M.Bang = 44
+mark_code M.Colon = 45
+mark_code M.Dot = 46
+mark_code M.Becomes = 47
+mark_code M.Arrow = 48
+mark_code M.To = 49
+mark_code M.Unequal = 50
+mark_code M.Else = 51
+mark_code M.ListOf = 52
+mark_code M.Other = 53
 
-abbrev pub is_bar : Lexeme → Bool
-is_bar Bar = true
-is_bar _ = false
+abbrev pub code : Class → ℕ
+code (C.Word w) = word_code w
+code C.Wild = 6
+code C.SomeOf = 7
+code C.Variable = 8
+code C.SortVariable = 9
+code C.Text = 10
+code (C.Opener o) = opener_code o
+code (C.Directive d) = directive_code d
+code (C.Mark m) = mark_code m
 
--- whether the first token passes a test
-abbrev pub starts : (Lexeme → Bool) → List Placed → Bool
-starts test [] = false
-starts test (at p t ∷ ts) = test t
-
--- whether a token goes on with the names of a `pick-any`, or begins its body
-abbrev pub goes_on : Lexeme → Bool
-goes_on Colon = true
-goes_on t = begins_phrase t
-
--- a second item is read as an operator where it is one and the first isn't
-abbrev pub clashes : Bool → Bool → Bool
-clashes first true = if first then false else true
-clashes first false = false
-
-abbrev pub is_among : Sym → List Sym → Bool
-is_among n [] = false
-is_among n (m ∷ ms) = if n.0 == m.0 then true else is_among n ms
-
--- whether a name and `:=` come first
-abbrev pub starts_becomes : List Placed → Bool
-starts_becomes (at p Becomes ∷ ts) = true
-starts_becomes _ = false
-
-abbrev pub names_sentence : List Placed → Bool
-names_sentence (at p (Word Plain n) ∷ ts) = starts_becomes ts
-names_sentence _ = false
+abbrev pub is_class : Class → Placed → Bool
+is_class c t = nat_eq (code c) (code (class_of t))

@@ -1,3 +1,4 @@
+pub mod DirShelf
 pub mod Faults
 pub mod MemoryShelf
 pub mod MemorySink

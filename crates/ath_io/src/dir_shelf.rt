@@ -1,7 +1,8 @@
 // Files as a shelf.
-ghost use Rattle.std.specs.Prelude.{◌≡◌, ◌≤◌, None, IfOk, IfSome, OnOk, OnErr, IsErrOf, vec_len, take};
+ghost use Rattle.std.specs.Prelude.{◌≡◌, ◌≤◌, None, IfOk, IfSome, IsErrOf, vec_len, take, option_map};
 ghost use Rattle.ath_io.specs.declared.shelf.FetchError.TheVariants.{Failed};
-ghost use Rattle.ath_io.specs.Faults.{one_more, Rose};
+ghost use Rattle.ath_io.specs.DirShelf.{no_failures, failures_after};
+ghost use Rattle.ath_io.specs.Faults.{Rose};
 ghost use Rattle.ath_io.specs.Shelf.{after_fetch, IsFetched};
 
 use crate::shelf::{FetchError, Shelf};
@@ -12,30 +13,40 @@ use std::rt::Files;
 use std::{fs, io};
 
 /// The files by their paths. It tells nothing of what they hold, and contracts see the number of
-/// its faults alone.
+/// its faults and the name of the last file that couldn't be read alone.
 #[derive(Drop)]
 pub struct DirShelf<'a, R: Files> {
     files: &'a R,
+    failed: Option<String>,
     faults: u64,
 }
 
 impl<'a, R: Files> Model for DirShelf<'a, R> {
-    ghost use Rattle.std.specs.Prelude.{ℕ};
+    ghost use Rattle.std.specs.Prelude.{option_map, string_bytes};
+    ghost use Rattle.ath_io.specs.DirShelf.{Failures};
 
-    ghost Value = { ℕ };
+    ghost Value = { Failures };
 
-    ghost view = { λ s. s.faults };
+    ghost view = { λ s. record { failed = option_map string_bytes s.failed; count = s.faults } };
 }
 
 impl<'a, R: Files> DirShelf<'a, R> {
     /// A shelf of the files that this runtime reaches, with no fault so far.
     pub fn new(rt: &'a R) -> Self
-        ensures { result ≡ 0 }
+        ensures { result ≡ no_failures }
     {
         DirShelf {
             files: rt,
+            failed: None,
             faults: 0,
         }
+    }
+
+    /// The name of the last file that couldn't be read.
+    pub fn failed(&self) -> Option<&str>
+        ensures { option_map (λ name. name.now) result ≡ self.now.failed }
+    {
+        self.failed.as_deref()
     }
 }
 
@@ -81,24 +92,29 @@ fn read_front<F: Read>(file: &mut F, alloc: Global, most: usize) -> Result<Vec<u
 impl<'a, R: Files> Shelf for DirShelf<'a, R> {
     ghost told = { λ _. None };
 
-    ghost faults = { λ s. s };
+    ghost faults = { λ s. s.count };
 
     fn fetch(&mut self, alloc: Global, name: &str, most: usize) -> Result<Vec<u8>, FetchError>
         ensures bound { IfOk result (λ bytes. vec_len bytes ≤ most) }
         ensures asked { None ≡ after_fetch None name.now result }
         ensures content { IfOk result (λ bytes. IsFetched None name.now most bytes.items) }
-        ensures later { self.old ≤ self.new }
-        ensures cause { IsErrOf result Failed → Rose self.old self.new }
-        ensures kept { OnOk result (self.new ≡ self.old) }
-        ensures counted { OnErr result (self.new ≡ one_more self.old) }
+        ensures later { self.old.count ≤ self.new.count }
+        ensures cause { IsErrOf result Failed → Rose self.old.count self.new.count }
+        ensures after { self.new ≡ failures_after self.old name.now result }
     {
         let fetched = match fs::open(self.files, name) {
             Ok(mut file) => read_front(&mut file, alloc, most),
             Err(error) => Err(cause(&error)),
         };
-        if fetched.is_err() {
-            self.faults = self.faults.saturating_add(1);
+        match fetched {
+            Ok(text) => Ok(text),
+            Err(FetchError::Memory) => Err(FetchError::Memory),
+            Err(FetchError::Failed) => {
+                let name = String::from_str(alloc, name).map_err(|_| FetchError::Memory)?;
+                self.failed = Some(name);
+                self.faults = self.faults.saturating_add(1);
+                Err(FetchError::Failed)
+            }
         }
-        fetched
     }
 }

@@ -91,8 +91,12 @@ fn files_are_read_by_their_paths(rt: HostRuntime) -> Result<(), Fail> {
         ("absent", 3, None),
         (".", 3, None),
     ];
+    assert!(rt; shelf.failed().is_none());
     for (name, most, want) in fetches {
         expect_fetch(&rt, &mut shelf, name, most, want);
+        if want.is_none() {
+            assert_eq!(rt; shelf.failed(), Some(name));
+        }
     }
     Ok(())
 }

@@ -8,14 +8,14 @@ use Rattle.std.proofs.lemmas.Option.{slice_get-get_or, get_or_from_slice_get, sa
 use Rattle.std.proofs.lemmas.Slice.Eq.{bytes_eq-Decides}
 use Rattle.ath_sorts.specs.declared.sorts.Sym.{Sym}
 use Rattle.ath_syntax.specs.Fits.{IsSomeWord}
-use Rattle.ath_grammar.specs.declared.lexeme.WordClass.TheVariants.{Plain, Dotted}
+use Rattle.ath_grammar.specs.declared.class.WordClass.TheVariants.{Plain, Dotted}
 use Rattle.ath_grammar.specs.declared.lexeme.Lexeme.TheVariants.{Word, Wild, SomeOf}
 use Rattle.ath_names.specs.Names.{number_of, first_names, fixed_words, numbered, IsTable, Grows}
 use Rattle.ath_names.proofs.NamesLaws.{Grows-trans, text_kept, number_kept, number_of_text}
 use Rattle.ath_tokens.specs.declared.tokens.Token.{Token}
 use Rattle.ath_tokens.specs.declared.tokens.Token.TheVariants.{Word as WordToken, Var as VarToken, SortVar as SortVarToken, Str as StrToken, Punct, Becomes as BecomesToken}
 use Rattle.ath_lexemes.specs.declared.reserved.Reserved.{Reserved}
-use Rattle.ath_lexemes.specs.declared.reserved.Reserved.TheVariants.{Form as FormWord, Directive as DirectiveWord, Own, Means, Wild as WildWord, Else as ElseWord, Arrow as ArrowWord, To as ToWord, Unequal as UnequalWord, ListOf as ListOfWord, SomeOf as SomeWord}
+use Rattle.ath_lexemes.specs.declared.reserved.Reserved.TheVariants.{Opener as OpenerWord, Directive as DirectiveWord, Mark as MarkWord, Own, Means, Wild as WildWord, SomeOf as SomeWord}
 use Rattle.ath_lexemes.specs.Reserved.{reserved_words}
 use Rattle.ath_lexemes.specs.Lexemes.{meant, reserved_or_plain, word_lexeme, text_of, IsNumbered, lexeme_of}
 
@@ -66,16 +66,12 @@ never_plain n k true = (λ h. absurd (grind (arith, h)), λ h. absurd (grind (ar
 never_plain n k false = (λ h. absurd (grind (arith, h)), λ h. absurd (grind (arith, h)))
 
 some_meant : (n k : Sym) (r : Reserved) → meant n r ≡ SomeOf k → (is_some_word r ≡ true) × (n ≡ k)
-some_meant n k (FormWord w) h = absurd (grind (arith, h))
+some_meant n k (OpenerWord o) h = absurd (grind (arith, h))
 some_meant n k (DirectiveWord w) h = absurd (grind (arith, h))
 some_meant n k (Own c) h = absurd (grind (arith, h))
 some_meant n k (Means c m) h = absurd (grind (arith, h))
 some_meant n k WildWord h = absurd (grind (arith, h))
-some_meant n k ElseWord h = absurd (grind (arith, h))
-some_meant n k ArrowWord h = absurd (grind (arith, h))
-some_meant n k ToWord h = absurd (grind (arith, h))
-some_meant n k UnequalWord h = absurd (grind (arith, h))
-some_meant n k ListOfWord h = absurd (grind (arith, h))
+some_meant n k (MarkWord m) h = absurd (grind (arith, h))
 some_meant n k SomeWord h = (refl, cc)
 
 some_word : (text : List ℕ) (n k : Sym) (o : Option Reserved) → lookup (bytes_eq text) reserved_words ≡ o → reserved_or_plain text n o ≡ SomeOf k → (list_any (λ e. bytes_eq text e.0) (filter (λ e. is_some_word e.1) reserved_words) ≡ true) × (n ≡ k)
@@ -83,16 +79,12 @@ some_word text n k None g h = absurd ((never_plain n k (list_any (λ b. nat_eq b
 some_word text n k (Some r) g h = let m = some_meant n k r h in (among (bytes_eq text) is_some_word reserved_words r g m.0, m.1)
 
 wild_meant : (n k : Sym) (r : Reserved) → meant n r ≡ Wild k → (is_wild_word r ≡ true) × (n ≡ k)
-wild_meant n k (FormWord w) h = absurd (grind (arith, h))
+wild_meant n k (OpenerWord o) h = absurd (grind (arith, h))
 wild_meant n k (DirectiveWord w) h = absurd (grind (arith, h))
 wild_meant n k (Own c) h = absurd (grind (arith, h))
 wild_meant n k (Means c m) h = absurd (grind (arith, h))
 wild_meant n k WildWord h = (refl, cc)
-wild_meant n k ElseWord h = absurd (grind (arith, h))
-wild_meant n k ArrowWord h = absurd (grind (arith, h))
-wild_meant n k ToWord h = absurd (grind (arith, h))
-wild_meant n k UnequalWord h = absurd (grind (arith, h))
-wild_meant n k ListOfWord h = absurd (grind (arith, h))
+wild_meant n k (MarkWord m) h = absurd (grind (arith, h))
 wild_meant n k SomeWord h = absurd (grind (arith, h))
 
 wild_word : (text : List ℕ) (n k : Sym) (o : Option Reserved) → lookup (bytes_eq text) reserved_words ≡ o → reserved_or_plain text n o ≡ Wild k → (list_any (λ e. bytes_eq text e.0) (filter (λ e. is_wild_word e.1) reserved_words) ≡ true) × (n ≡ k)

@@ -4,27 +4,25 @@ use Rattle.std.specs.List.{list_any}
 use Rattle.std.specs.Map.{lookup}
 use Rattle.std.specs.Str.{bytes_eq}
 use Rattle.ath_sorts.specs.declared.sorts.Sym.{Sym}
-use Rattle.ath_grammar.specs.declared.lexeme.WordClass.TheVariants.{Plain, Dotted}
+use Rattle.ath_grammar.specs.declared.class.WordClass.TheVariants.{Plain, Dotted}
+use Rattle.ath_grammar.specs.declared.class.Opener.TheVariants as O
+use Rattle.ath_grammar.specs.declared.class.Mark.TheVariants as M
 use Rattle.ath_grammar.specs.declared.lexeme.Lexeme.{Lexeme}
-use Rattle.ath_grammar.specs.declared.lexeme.Lexeme.TheVariants.{Word, Form, Directive, Wild, Else, Arrow, To, Unequal, ListOf, SomeOf, Var, SortVar, Str, Becomes, Open, Close, OpenBracket, CloseBracket, OpenBrace, CloseBrace, Bar, Comma, Semicolon, Bang, Colon, Dot}
+use Rattle.ath_grammar.specs.declared.lexeme.Lexeme.TheVariants.{Word, Wild, SomeOf, Variable, SortVariable, Text, Opener, Directive, Mark}
 use Rattle.ath_tokens.specs.declared.tokens.Token.{Token}
 use Rattle.ath_tokens.specs.declared.tokens.Token.TheVariants.{Word as WordToken, Var as VarToken, SortVar as SortVarToken, Str as StrToken, Punct, Becomes as BecomesToken}
 use Rattle.ath_lexemes.specs.declared.reserved.Reserved.{Reserved}
-use Rattle.ath_lexemes.specs.declared.reserved.Reserved.TheVariants.{Form as FormWord, Directive as DirectiveWord, Own, Means, Wild as WildWord, Else as ElseWord, Arrow as ArrowWord, To as ToWord, Unequal as UnequalWord, ListOf as ListOfWord, SomeOf as SomeWord}
+use Rattle.ath_lexemes.specs.declared.reserved.Reserved.TheVariants.{Opener as OpenerWord, Directive as DirectiveWord, Mark as MarkWord, Own, Means, Wild as WildWord, SomeOf as SomeWord}
 use Rattle.ath_lexemes.specs.Reserved.{reserved_words}
 
 -- a reserved word of this name
 abbrev pub meant : Sym → Reserved → Lexeme
-meant n (FormWord w) = Form w
-meant n (DirectiveWord w) = Directive w
+meant n (OpenerWord o) = Opener o
+meant n (DirectiveWord d) = Directive d
+meant n (MarkWord m) = Mark m
 meant n (Own c) = Word c n
 meant n (Means c m) = Word c m
 meant n WildWord = Wild n
-meant n ElseWord = Else
-meant n ArrowWord = Arrow
-meant n ToWord = To
-meant n UnequalWord = Unequal
-meant n ListOfWord = ListOf
 meant n SomeWord = SomeOf n
 
 -- a word that isn't reserved is a name, with dots or without
@@ -41,18 +39,18 @@ word_lexeme text n = reserved_or_plain text n (lookup (bytes_eq text) reserved_w
 -- a bracket or another mark, by its byte
 abbrev pub punct_lexeme : ℕ → Lexeme
 punct_lexeme b =
-    if b == 40 then Open
-    else if b == 41 then Close
-    else if b == 91 then OpenBracket
-    else if b == 93 then CloseBracket
-    else if b == 123 then OpenBrace
-    else if b == 125 then CloseBrace
-    else if b == 124 then Bar
-    else if b == 44 then Comma
-    else if b == 59 then Semicolon
-    else if b == 33 then Bang
-    else if b == 58 then Colon
-    else Dot
+    if b == 40 then Opener O.Open
+    else if b == 41 then Mark M.Close
+    else if b == 91 then Opener O.OpenBracket
+    else if b == 93 then Mark M.CloseBracket
+    else if b == 123 then Opener O.OpenBrace
+    else if b == 125 then Mark M.CloseBrace
+    else if b == 124 then Mark M.Bar
+    else if b == 44 then Mark M.Comma
+    else if b == 59 then Mark M.Semicolon
+    else if b == 33 then Mark M.Bang
+    else if b == 58 then Mark M.Colon
+    else Mark M.Dot
 
 -- the text of a name
 abbrev pub text_of : List (List ℕ) → Sym → List ℕ
@@ -65,8 +63,8 @@ IsNumbered names t = Unit {0}
 
 abbrev pub lexeme_of : List (List ℕ) → Token → Lexeme
 lexeme_of names (WordToken n) = word_lexeme (text_of names n) n
-lexeme_of names (VarToken n index) = Var n index
-lexeme_of names (SortVarToken n) = SortVar n
-lexeme_of names (StrToken bytes) = Str bytes
+lexeme_of names (VarToken n index) = Variable n index
+lexeme_of names (SortVarToken n) = SortVariable n
+lexeme_of names (StrToken bytes) = Text bytes
 lexeme_of names (Punct b) = punct_lexeme b
-lexeme_of names BecomesToken = Becomes
+lexeme_of names BecomesToken = Mark M.Becomes

@@ -1,15 +1,12 @@
 -- The reserved words, and what each is.
-use Rattle.std.specs.Prelude.{ℕ, List, [], ◌∷◌, true, false, codes}
+use Rattle.std.specs.Prelude.{ℕ, List, [], ◌∷◌, codes}
 use Rattle.ath_sorts.specs.declared.sorts.Sym.{Sym}
-use Rattle.ath_grammar.specs.declared.lexeme.ClosureWord.TheVariants.{Lambda, Method}
-use Rattle.ath_grammar.specs.declared.lexeme.ClauseWord.TheVariants.{Match, MatchDeduction, Induct, Cases}
-use Rattle.ath_grammar.specs.declared.lexeme.HypothesisWord.TheVariants.{Assume, Absurd, Conclude}
-use Rattle.ath_grammar.specs.declared.lexeme.LetWord.TheVariants.{Let, LetDeduction, LetRec}
-use Rattle.ath_grammar.specs.declared.lexeme.FormWord.TheVariants.{Closure, Let as LetForm, Clauses as ClausesForm, Check, Try, Begin, Hypothesis, PickAny, PickWitness}
-use Rattle.ath_grammar.specs.declared.lexeme.DirectiveWord.TheVariants.{Domain, Datatype, Declare, Define, Assert, Load, Other}
-use Rattle.ath_grammar.specs.declared.lexeme.WordClass.TheVariants.{Logical, Infix, Tilde, Back}
+use Rattle.ath_grammar.specs.declared.class.WordClass.TheVariants.{Logical, Infix, Tilde, Back}
+use Rattle.ath_grammar.specs.declared.class.Opener.TheVariants as O
+use Rattle.ath_grammar.specs.declared.class.DirectiveWord.TheVariants as D
+use Rattle.ath_grammar.specs.declared.class.Mark.TheVariants as M
 use Rattle.ath_lexemes.specs.declared.reserved.Reserved.{Reserved}
-use Rattle.ath_lexemes.specs.declared.reserved.Reserved.TheVariants.{Form, Directive, Own, Means, Wild, Else, Arrow, To, Unequal, ListOf, SomeOf}
+use Rattle.ath_lexemes.specs.declared.reserved.Reserved.TheVariants.{Opener, Directive, Mark, Own, Means, Wild, SomeOf}
 
 -- the names `not`, `and`, `if` and `iff`, by the numbers that a new table of names gives them
 abbrev pub not_name : Sym
@@ -27,37 +24,37 @@ iff_name = record { 0 = 14 }
 -- the operators `&`, `~`, `==>` and `<==>` are phrases of those names
 abbrev pub reserved_words : List (List ℕ × Reserved)
 reserved_words =
-    (codes "lambda", Form (Closure Lambda))
-    ∷ (codes "method", Form (Closure Method))
-    ∷ (codes "let", Form (LetForm Let))
-    ∷ (codes "dlet", Form (LetForm LetDeduction))
-    ∷ (codes "letrec", Form (LetForm LetRec))
-    ∷ (codes "match", Form (ClausesForm Match))
-    ∷ (codes "dmatch", Form (ClausesForm MatchDeduction))
-    ∷ (codes "by-induction", Form (ClausesForm Induct))
-    ∷ (codes "datatype-cases", Form (ClausesForm Cases))
-    ∷ (codes "check", Form Check)
-    ∷ (codes "try", Form Try)
-    ∷ (codes "dbegin", Form Begin)
-    ∷ (codes "assume", Form (Hypothesis Assume))
-    ∷ (codes "suppose-absurd", Form (Hypothesis Absurd))
-    ∷ (codes "conclude", Form (Hypothesis Conclude))
-    ∷ (codes "pick-any", Form PickAny)
-    ∷ (codes "pick-witness", Form PickWitness)
-    ∷ (codes "domain", Directive Domain)
-    ∷ (codes "datatype", Directive Datatype)
-    ∷ (codes "declare", Directive Declare)
-    ∷ (codes "define", Directive Define)
-    ∷ (codes "assert", Directive ((Assert false)))
-    ∷ (codes "assert*", Directive ((Assert true)))
-    ∷ (codes "load", Directive Load)
-    ∷ (codes "module", Directive Other)
-    ∷ (codes "open", Directive Other)
-    ∷ (codes "left-assoc", Directive Other)
-    ∷ (codes "right-assoc", Directive Other)
-    ∷ (codes "else", Else)
+    (codes "lambda", Opener O.Lambda)
+    ∷ (codes "method", Opener O.Method)
+    ∷ (codes "let", Opener O.Let)
+    ∷ (codes "dlet", Opener O.LetDeduction)
+    ∷ (codes "letrec", Opener O.LetRec)
+    ∷ (codes "match", Opener O.Match)
+    ∷ (codes "dmatch", Opener O.MatchDeduction)
+    ∷ (codes "by-induction", Opener O.Induct)
+    ∷ (codes "datatype-cases", Opener O.Cases)
+    ∷ (codes "check", Opener O.Check)
+    ∷ (codes "try", Opener O.Try)
+    ∷ (codes "dbegin", Opener O.Begin)
+    ∷ (codes "assume", Opener O.Assume)
+    ∷ (codes "suppose-absurd", Opener O.Absurd)
+    ∷ (codes "conclude", Opener O.Conclude)
+    ∷ (codes "pick-any", Opener O.PickAny)
+    ∷ (codes "pick-witness", Opener O.PickWitness)
+    ∷ (codes "domain", Directive D.Domain)
+    ∷ (codes "datatype", Directive D.Datatype)
+    ∷ (codes "declare", Directive D.Declare)
+    ∷ (codes "define", Directive D.Define)
+    ∷ (codes "assert", Directive D.Assert)
+    ∷ (codes "assert*", Directive D.AssertClosed)
+    ∷ (codes "load", Directive D.Load)
+    ∷ (codes "module", Mark M.Other)
+    ∷ (codes "open", Mark M.Other)
+    ∷ (codes "left-assoc", Mark M.Other)
+    ∷ (codes "right-assoc", Mark M.Other)
+    ∷ (codes "else", Mark M.Else)
     ∷ (codes "_", Wild)
-    ∷ (codes "list-of", ListOf)
+    ∷ (codes "list-of", Mark M.ListOf)
     ∷ (codes "some-var", SomeOf)
     ∷ (codes "some-term", SomeOf)
     ∷ (codes "some-sent", SomeOf)
@@ -70,12 +67,12 @@ reserved_words =
     ∷ (codes "if", Own Logical)
     ∷ (codes "iff", Own Logical)
     ∷ (codes "=", Own Infix)
-    ∷ (codes "=/=", Unequal)
+    ∷ (codes "=/=", Mark M.Unequal)
     ∷ (codes "&", Means Infix and_name)
     ∷ (codes "~", Means Tilde not_name)
     ∷ (codes "==>", Means Infix if_name)
     ∷ (codes "<==>", Means Infix iff_name)
     ∷ (codes "<==", Own Back)
-    ∷ (codes "=>", Arrow)
-    ∷ (codes "->", To)
+    ∷ (codes "=>", Mark M.Arrow)
+    ∷ (codes "->", Mark M.To)
     ∷ []

@@ -4,7 +4,7 @@ ghost use Rattle.std.specs.Prelude.{◌≡◌};
 ghost use Rattle.ath_lexemes.specs.Lexemes.{IsNumbered, lexeme_of, punct_lexeme, word_lexeme, meant, plain_lexeme};
 
 use crate::reserved::{Reserved, find_reserved};
-use ath_grammar::lexeme::{Lexeme, WordClass};
+use ath_grammar::{Lexeme, Mark, Opener, WordClass};
 use ath_names::Names;
 use ath_sorts::Sym;
 use ath_tokens::Token;
@@ -16,11 +16,11 @@ pub fn lexeme(names: &Names, token: Token) -> Lexeme
 {
     match token {
         Token::Word(name) => word(names.text(name.0), name),
-        Token::Var(name, index) => Lexeme::Var(name, index),
-        Token::SortVar(name) => Lexeme::SortVar(name),
-        Token::Str(bytes) => Lexeme::Str(bytes),
+        Token::Var(name, index) => Lexeme::Variable(name, index),
+        Token::SortVar(name) => Lexeme::SortVariable(name),
+        Token::Str(bytes) => Lexeme::Text(bytes),
         Token::Punct(byte) => punct(byte),
-        Token::Becomes => Lexeme::Becomes,
+        Token::Becomes => Lexeme::Mark(Mark::Becomes),
     }
 }
 
@@ -37,16 +37,12 @@ fn meaning(reserved: Reserved, name: Sym) -> Lexeme
     ensures { result ≡ meant name reserved }
 {
     match reserved {
-        Reserved::Form(word) => Lexeme::Form(word),
+        Reserved::Opener(opener) => Lexeme::Opener(opener),
         Reserved::Directive(word) => Lexeme::Directive(word),
+        Reserved::Mark(mark) => Lexeme::Mark(mark),
         Reserved::Own(class) => Lexeme::Word(class, name),
         Reserved::Means(class, other) => Lexeme::Word(class, other),
         Reserved::Wild => Lexeme::Wild(name),
-        Reserved::Else => Lexeme::Else,
-        Reserved::Arrow => Lexeme::Arrow,
-        Reserved::To => Lexeme::To,
-        Reserved::Unequal => Lexeme::Unequal,
-        Reserved::ListOf => Lexeme::ListOf,
         Reserved::SomeOf => Lexeme::SomeOf(name),
     }
 }
@@ -65,17 +61,17 @@ fn punct(byte: u8) -> Lexeme
     ensures { result ≡ punct_lexeme byte }
 {
     match byte {
-        b'(' => Lexeme::Open,
-        b')' => Lexeme::Close,
-        b'[' => Lexeme::OpenBracket,
-        b']' => Lexeme::CloseBracket,
-        b'{' => Lexeme::OpenBrace,
-        b'}' => Lexeme::CloseBrace,
-        b'|' => Lexeme::Bar,
-        b',' => Lexeme::Comma,
-        b';' => Lexeme::Semicolon,
-        b'!' => Lexeme::Bang,
-        b':' => Lexeme::Colon,
-        _ => Lexeme::Dot,
+        b'(' => Lexeme::Opener(Opener::Open),
+        b')' => Lexeme::Mark(Mark::Close),
+        b'[' => Lexeme::Opener(Opener::OpenBracket),
+        b']' => Lexeme::Mark(Mark::CloseBracket),
+        b'{' => Lexeme::Opener(Opener::OpenBrace),
+        b'}' => Lexeme::Mark(Mark::CloseBrace),
+        b'|' => Lexeme::Mark(Mark::Bar),
+        b',' => Lexeme::Mark(Mark::Comma),
+        b';' => Lexeme::Mark(Mark::Semicolon),
+        b'!' => Lexeme::Mark(Mark::Bang),
+        b':' => Lexeme::Mark(Mark::Colon),
+        _ => Lexeme::Mark(Mark::Dot),
     }
 }

@@ -5,30 +5,21 @@ ghost use Rattle.std.specs.Map.{lookup};
 ghost use Rattle.std.specs.Str.{bytes_eq};
 ghost use Rattle.ath_lexemes.specs.Reserved.{reserved_words};
 
-use ath_grammar::lexeme::{
-    ClauseWord, ClosureWord, DirectiveWord, FormWord, HypothesisWord, LetWord, WordClass,
-};
+use ath_grammar::{DirectiveWord, Mark, Opener, WordClass};
 use ath_sorts::Sym;
 
 /// What a reserved word is.
-#[derive(Clone, Copy, Debug)]
+#[derive(Clone, Copy)]
 pub enum Reserved {
-    Form(FormWord),
+    Opener(Opener),
     Directive(DirectiveWord),
+    Mark(Mark),
     /// a word that is a phrase of its own name
     Own(WordClass),
     /// an operator that is a phrase of another name
     Means(WordClass, Sym),
     /// `_`
     Wild,
-    Else,
-    /// `=>`
-    Arrow,
-    /// `->`
-    To,
-    /// `=/=`
-    Unequal,
-    ListOf,
     /// one of the four words `some-..`
     SomeOf,
 }
@@ -42,64 +33,37 @@ const IF: Sym = Sym(13);
 const IFF: Sym = Sym(14);
 
 const RESERVED: [(&str, Reserved); 51] = [
-    (
-        "lambda",
-        Reserved::Form(FormWord::Closure(ClosureWord::Lambda)),
-    ),
-    (
-        "method",
-        Reserved::Form(FormWord::Closure(ClosureWord::Method)),
-    ),
-    ("let", Reserved::Form(FormWord::Let(LetWord::Let))),
-    ("dlet", Reserved::Form(FormWord::Let(LetWord::LetDeduction))),
-    ("letrec", Reserved::Form(FormWord::Let(LetWord::LetRec))),
-    (
-        "match",
-        Reserved::Form(FormWord::Clauses(ClauseWord::Match)),
-    ),
-    (
-        "dmatch",
-        Reserved::Form(FormWord::Clauses(ClauseWord::MatchDeduction)),
-    ),
-    (
-        "by-induction",
-        Reserved::Form(FormWord::Clauses(ClauseWord::Induct)),
-    ),
-    (
-        "datatype-cases",
-        Reserved::Form(FormWord::Clauses(ClauseWord::Cases)),
-    ),
-    ("check", Reserved::Form(FormWord::Check)),
-    ("try", Reserved::Form(FormWord::Try)),
-    ("dbegin", Reserved::Form(FormWord::Begin)),
-    (
-        "assume",
-        Reserved::Form(FormWord::Hypothesis(HypothesisWord::Assume)),
-    ),
-    (
-        "suppose-absurd",
-        Reserved::Form(FormWord::Hypothesis(HypothesisWord::Absurd)),
-    ),
-    (
-        "conclude",
-        Reserved::Form(FormWord::Hypothesis(HypothesisWord::Conclude)),
-    ),
-    ("pick-any", Reserved::Form(FormWord::PickAny)),
-    ("pick-witness", Reserved::Form(FormWord::PickWitness)),
+    ("lambda", Reserved::Opener(Opener::Lambda)),
+    ("method", Reserved::Opener(Opener::Method)),
+    ("let", Reserved::Opener(Opener::Let)),
+    ("dlet", Reserved::Opener(Opener::LetDeduction)),
+    ("letrec", Reserved::Opener(Opener::LetRec)),
+    ("match", Reserved::Opener(Opener::Match)),
+    ("dmatch", Reserved::Opener(Opener::MatchDeduction)),
+    ("by-induction", Reserved::Opener(Opener::Induct)),
+    ("datatype-cases", Reserved::Opener(Opener::Cases)),
+    ("check", Reserved::Opener(Opener::Check)),
+    ("try", Reserved::Opener(Opener::Try)),
+    ("dbegin", Reserved::Opener(Opener::Begin)),
+    ("assume", Reserved::Opener(Opener::Assume)),
+    ("suppose-absurd", Reserved::Opener(Opener::Absurd)),
+    ("conclude", Reserved::Opener(Opener::Conclude)),
+    ("pick-any", Reserved::Opener(Opener::PickAny)),
+    ("pick-witness", Reserved::Opener(Opener::PickWitness)),
     ("domain", Reserved::Directive(DirectiveWord::Domain)),
     ("datatype", Reserved::Directive(DirectiveWord::Datatype)),
     ("declare", Reserved::Directive(DirectiveWord::Declare)),
     ("define", Reserved::Directive(DirectiveWord::Define)),
-    ("assert", Reserved::Directive(DirectiveWord::Assert(false))),
-    ("assert*", Reserved::Directive(DirectiveWord::Assert(true))),
+    ("assert", Reserved::Directive(DirectiveWord::Assert)),
+    ("assert*", Reserved::Directive(DirectiveWord::AssertClosed)),
     ("load", Reserved::Directive(DirectiveWord::Load)),
-    ("module", Reserved::Directive(DirectiveWord::Other)),
-    ("open", Reserved::Directive(DirectiveWord::Other)),
-    ("left-assoc", Reserved::Directive(DirectiveWord::Other)),
-    ("right-assoc", Reserved::Directive(DirectiveWord::Other)),
-    ("else", Reserved::Else),
+    ("module", Reserved::Mark(Mark::Other)),
+    ("open", Reserved::Mark(Mark::Other)),
+    ("left-assoc", Reserved::Mark(Mark::Other)),
+    ("right-assoc", Reserved::Mark(Mark::Other)),
+    ("else", Reserved::Mark(Mark::Else)),
     ("_", Reserved::Wild),
-    ("list-of", Reserved::ListOf),
+    ("list-of", Reserved::Mark(Mark::ListOf)),
     ("some-var", Reserved::SomeOf),
     ("some-term", Reserved::SomeOf),
     ("some-sent", Reserved::SomeOf),
@@ -112,14 +76,14 @@ const RESERVED: [(&str, Reserved); 51] = [
     ("if", Reserved::Own(WordClass::Logical)),
     ("iff", Reserved::Own(WordClass::Logical)),
     ("=", Reserved::Own(WordClass::Infix)),
-    ("=/=", Reserved::Unequal),
+    ("=/=", Reserved::Mark(Mark::Unequal)),
     ("&", Reserved::Means(WordClass::Infix, AND)),
     ("~", Reserved::Means(WordClass::Tilde, NOT)),
     ("==>", Reserved::Means(WordClass::Infix, IF)),
     ("<==>", Reserved::Means(WordClass::Infix, IFF)),
     ("<==", Reserved::Own(WordClass::Back)),
-    ("=>", Reserved::Arrow),
-    ("->", Reserved::To),
+    ("=>", Reserved::Mark(Mark::Arrow)),
+    ("->", Reserved::Mark(Mark::To)),
 ];
 
 /// What the word is, where it is reserved.

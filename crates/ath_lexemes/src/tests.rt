@@ -1,5 +1,5 @@
 use super::*;
-use ath_grammar::lexeme::{ClauseWord, DirectiveWord, FormWord, Lexeme, WordClass};
+use ath_grammar::{DirectiveWord, Lexeme, Mark, Opener, WordClass};
 use ath_names::{NameError, Names};
 use ath_sorts::Sym;
 use ath_tokens::Token;
@@ -23,14 +23,9 @@ fn lexeme_of_word(
 fn words_and_marks(rt: HostRuntime) -> Result<(), Fail> {
     let mut names = Names::new(rt.alloc())?;
     let word = lexeme_of_word(rt.alloc(), &mut names, "dmatch")?;
-    assert!(rt;
-        matches!(
-            word,
-            Some(Lexeme::Form(FormWord::Clauses(ClauseWord::MatchDeduction)))
-        )
-    );
+    assert!(rt; matches!(word, Some(Lexeme::Opener(Opener::MatchDeduction))));
     let word = lexeme_of_word(rt.alloc(), &mut names, "assert*")?;
-    assert!(rt; matches!(word, Some(Lexeme::Directive(DirectiveWord::Assert(true)))));
+    assert!(rt; matches!(word, Some(Lexeme::Directive(DirectiveWord::AssertClosed))));
     let word = lexeme_of_word(rt.alloc(), &mut names, "==>")?;
     assert!(rt; matches!(word, Some(Lexeme::Word(WordClass::Infix, Sym(13)))));
     let word = lexeme_of_word(rt.alloc(), &mut names, "some-sent")?;
@@ -39,7 +34,7 @@ fn words_and_marks(rt: HostRuntime) -> Result<(), Fail> {
     assert!(rt; matches!(word, Some(Lexeme::Word(WordClass::Plain, Sym(2)))));
     let word = lexeme_of_word(rt.alloc(), &mut names, "N.plus")?;
     assert!(rt; matches!(word, Some(Lexeme::Word(WordClass::Dotted, _))));
-    assert!(rt; matches!(lexeme(&names, Token::Punct(b'!')), Lexeme::Bang));
+    assert!(rt; matches!(lexeme(&names, Token::Punct(b'!')), Lexeme::Mark(Mark::Bang)));
     Ok(())
 }
 

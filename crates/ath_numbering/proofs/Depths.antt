@@ -3,9 +3,9 @@ use Rattle.std.proofs.Common.{ℕ, List, Option, Some, None}
 use Prim.Native.Nat.{max}
 use denote.Param.Weighed.{most}
 use Rattle.ath_sorts.specs.declared.sorts.Sym.{Sym}
-use Rattle.ath_automaton.specs.declared.tree.PatternTree.{PatternTree}
-use Rattle.ath_automaton.specs.declared.tree.PhraseTree.{PhraseTree}
-use Rattle.ath_automaton.proofs.tree.PhraseTree.TheLaws.{the_size}
+use Rattle.ath_numbering.specs.declared.tree.PatternTree.{PatternTree}
+use Rattle.ath_numbering.specs.declared.tree.PhraseTree.{PhraseTree}
+use Rattle.ath_numbering.proofs.tree.PhraseTree.TheLaws.{the_size}
 
 abbrev pub deeper : ℕ → ℕ → ℕ
 deeper = max

@@ -4,8 +4,8 @@ use Rattle.std.specs.Prelude.{All}
 use Rattle.std.specs.List.{IsDistinct}
 use Rattle.std.proofs.lemmas.List.Elements.{All-nil, All-cons}
 use Rattle.ath_sorts.specs.declared.sorts.Sym.{Sym}
-use Rattle.ath_automaton.specs.declared.tree.PhraseTree.{PhraseTree}
-use Rattle.ath_automaton.specs.Trees.{phrase_of}
+use Rattle.ath_numbering.specs.declared.tree.PhraseTree.{PhraseTree}
+use Rattle.ath_numbering.specs.Trees.{phrase_of}
 use Rattle.ath_syntax.specs.declared.place.Pos.{Pos}
 use Rattle.ath_syntax.specs.declared.node.PatId.{PatId}
 use Rattle.ath_syntax.specs.declared.node.PhraseId.{PhraseId}
@@ -17,7 +17,7 @@ use Rattle.ath_syntax.specs.Size.{patterns_size}
 use Rattle.ath_syntax.specs.Tree.{Phrase, Phrases, Bindings, Clauses, Branches, Otherwise, is_deduction, clauses_deduce, branches_deduce, phrases_deduce}
 use Rattle.ath_syntax.specs.Stands.{IsForm, is_name, is_variable, is_string, is_list, is_ascribe, is_apply, is_call, is_lambda, is_method, is_let, is_letrec, is_match, is_check, is_try, is_seq, is_assume, is_absurd, is_pick_any, is_pick_witness, is_induct, is_cases, is_conclude, is_node, IsPhrase, is_phrase, ArePatterns, patterns_none, patterns_more, ArePhrases, phrases_none, phrases_more, AreBindings, bindings_none, bindings_more, AreClauses, clauses_none, clauses_more, AreBranches, branches_none, branches_more, IsOtherwise, otherwise_none, otherwise_some}
 use Rattle.ath_syntax.proofs.NodeLaws.{part_of, kind_of}
-use Rattle.ath_numbering.specs.Proper.{Proper, ProperPhrases, ProperBindings, ProperClosures, ProperClauses, ProperBranches, ProperOtherwise, phrases_count, bindings_count, clauses_count, branches_count, otherwise_count, bound_names, clauses_patterns, bound_kind, is_closure, IsOfKind}
+use Rattle.ath_syntax.specs.Proper.{Proper, ProperPhrases, ProperBindings, ProperClosures, ProperClauses, ProperBranches, ProperOtherwise, phrases_count, bindings_count, clauses_count, branches_count, otherwise_count, bound_names, clauses_patterns, bound_kind, is_closure, IsOfKind}
 
 module _ (s : Nodes) where
   kind_is : (d : Bool) (i : PhraseId) (t : Phrase) → IsPhrase s i t → is_deduction t ≡ d → IsKind s d i

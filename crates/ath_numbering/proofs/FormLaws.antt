@@ -2,20 +2,20 @@
 use Rattle.std.proofs.Common.{◌≡◌, ℕ, List, map, true, false, Option, None, Some, sym, ap, ◌∙◌, subst}
 use Rattle.std.specs.Prelude.{option_map}
 use Rattle.ath_sorts.specs.declared.sorts.Sym.{Sym}
-use Rattle.ath_grammar.specs.declared.lexeme.ClosureWord.{ClosureWord}
-use Rattle.ath_grammar.specs.declared.lexeme.ClosureWord.TheVariants as closure
-use Rattle.ath_grammar.specs.declared.lexeme.ClauseWord.{ClauseWord}
-use Rattle.ath_grammar.specs.declared.lexeme.ClauseWord.TheVariants as clause
-use Rattle.ath_grammar.specs.declared.lexeme.HypothesisWord.{HypothesisWord}
-use Rattle.ath_grammar.specs.declared.lexeme.HypothesisWord.TheVariants as hypothesis
-use Rattle.ath_grammar.specs.declared.lexeme.LetWord.{LetWord}
-use Rattle.ath_grammar.specs.declared.lexeme.LetWord.TheVariants as binding
-use Rattle.ath_grammar.specs.Phrases.{closure_at, hypothesis_at, clauses_at, let_phrase}
-use Rattle.ath_automaton.specs.declared.tree.PhraseTree.{PhraseTree, Name, Var, Str, List as Listed, Try, Seq}
-use Rattle.ath_automaton.specs.declared.tree.PhraseTree.TheOpen as one
-use Rattle.ath_automaton.specs.declared.tree.PhraseTree.TheVariants.{rolls-Name, rolls-Var, rolls-Str, rolls-List, rolls-Try, rolls-Seq}
-use Rattle.ath_automaton.specs.declared.tree.PhraseTree.TheFolds.{fold-roll-PhraseTree}
-use Rattle.ath_automaton.specs.Trees.{phrase_of, phrase_step, phrases_of, otherwise_of}
+use Rattle.ath_numbering.specs.declared.tree.ClosureWord.{ClosureWord}
+use Rattle.ath_numbering.specs.declared.tree.ClosureWord.TheVariants as closure
+use Rattle.ath_numbering.specs.declared.tree.ClauseWord.{ClauseWord}
+use Rattle.ath_numbering.specs.declared.tree.ClauseWord.TheVariants as clause
+use Rattle.ath_numbering.specs.declared.tree.HypothesisWord.{HypothesisWord}
+use Rattle.ath_numbering.specs.declared.tree.HypothesisWord.TheVariants as hypothesis
+use Rattle.ath_numbering.specs.declared.tree.LetWord.{LetWord}
+use Rattle.ath_numbering.specs.declared.tree.LetWord.TheVariants as binding
+use Rattle.ath_numbering.specs.Trees.{closure_at, hypothesis_at, clauses_at, let_phrase}
+use Rattle.ath_numbering.specs.declared.tree.PhraseTree.{PhraseTree, Name, Var, Str, List as Listed, Try, Seq}
+use Rattle.ath_numbering.specs.declared.tree.PhraseTree.TheOpen as one
+use Rattle.ath_numbering.specs.declared.tree.PhraseTree.TheVariants.{rolls-Name, rolls-Var, rolls-Str, rolls-List, rolls-Try, rolls-Seq}
+use Rattle.ath_numbering.specs.declared.tree.PhraseTree.TheFolds.{fold-roll-PhraseTree}
+use Rattle.ath_numbering.specs.Trees.{phrase_of, phrase_step, phrases_of, otherwise_of}
 use Rattle.ath_syntax.specs.declared.place.Pos.{Pos}
 use Rattle.ath_syntax.specs.declared.node.PatId.{PatId}
 use Rattle.ath_syntax.specs.declared.node.PhraseId.{PhraseId}
@@ -25,7 +25,7 @@ use Rattle.ath_syntax.specs.declared.node.Form.TheVariants as form
 use Rattle.ath_syntax.specs.Nodes.{Nodes, Grows}
 use Rattle.ath_syntax.specs.Tree.{Binder, Phrase, name_at, variable_at, string_at, list_at, ascribe_at, apply_at, call_at, check_at, try_at, seq_at, pick_any_at, pick_witness_at, Phrases, phrases_deduce, Bindings, Clauses, Branches}
 use Rattle.ath_syntax.specs.Stands.{IsForm, is_name, is_variable, is_string, is_list, is_ascribe, is_apply, is_call, is_lambda, is_method, is_let, is_letrec, is_match, is_check, is_try, is_seq, is_assume, is_absurd, is_pick_any, is_pick_witness, is_induct, is_cases, is_conclude, IsPhrase, ArePhrases, AreBindings, AreClauses, AreBranches, otherwise_none, otherwise_some}
-use Rattle.ath_numbering.specs.Proper.{Proper, ProperPhrases}
+use Rattle.ath_syntax.specs.Proper.{Proper, ProperPhrases}
 use Rattle.ath_numbering.proofs.PhraseLists.{loose_phrases}
 use Rattle.ath_syntax.proofs.Kept.{keep_phrase, keep_bindings, keep_branches}
 
@@ -111,9 +111,6 @@ module _ (old new : Nodes) (p : Pos) (i : PhraseId) (x y : PhraseTree) (e : y �
   pub match_form : (w : ClauseWord) (is : List (PatId × PhraseId)) (cs : Clauses) → w ≡ clause.Match → AreClauses new is cs → IsForm new p (form.Match i is) (clauses_at w p (phrase_of x) cs)
   match_form w is cs f k = subst (λ (u : ClauseWord). IsForm new p (form.Match i is) (clauses_at u p (phrase_of x) cs)) (sym f) (is_match kept k)
 
-  pub match_deduction_form : (w : ClauseWord) (is : List (PatId × PhraseId)) (cs : Clauses) → w ≡ clause.MatchDeduction → AreClauses new is cs → IsForm new p (form.Match i is) (clauses_at w p (phrase_of x) cs)
-  match_deduction_form w is cs f k = subst (λ (u : ClauseWord). IsForm new p (form.Match i is) (clauses_at u p (phrase_of x) cs)) (sym f) (is_match kept k)
-
   pub induct_form : (w : ClauseWord) (is : List (PatId × PhraseId)) (cs : Clauses) → w ≡ clause.Induct → AreClauses new is cs → IsForm new p (form.Induct i is) (clauses_at w p (phrase_of x) cs)
   induct_form w is cs f k = subst (λ (u : ClauseWord). IsForm new p (form.Induct i is) (clauses_at u p (phrase_of x) cs)) (sym f) (is_induct kept k)
 
@@ -143,9 +140,6 @@ module _ (old new : Nodes) (p : Pos) (is : List (Sym × PhraseId)) (bs : Binding
 
   pub let_form : (w : LetWord) → w ≡ binding.Let → IsForm new p (form.Let is i) (let_phrase w p bs (phrase_of x))
   let_form w f = subst (λ (u : LetWord). IsForm new p (form.Let is i) (let_phrase u p bs (phrase_of x))) (sym f) (is_let rows (held new p i x y e k))
-
-  pub let_deduction_form : (w : LetWord) → w ≡ binding.LetDeduction → IsForm new p (form.Let is i) (let_phrase w p bs (phrase_of x))
-  let_deduction_form w f = subst (λ (u : LetWord). IsForm new p (form.Let is i) (let_phrase u p bs (phrase_of x))) (sym f) (is_let rows (held new p i x y e k))
 
   pub letrec_form : (w : LetWord) → w ≡ binding.LetRec → IsForm new p (form.LetRec is i) (let_phrase w p bs (phrase_of x))
   letrec_form w f = subst (λ (u : LetWord). IsForm new p (form.LetRec is i) (let_phrase u p bs (phrase_of x))) (sym f) (is_letrec rows (held new p i x y e k))

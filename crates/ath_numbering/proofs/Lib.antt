@@ -1,12 +1,7 @@
-pub mod Apart
 pub mod Depths
 pub mod FitLaws
 pub mod FormLaws
-pub mod Forms
 pub mod Listings
 pub mod PatternLaws
 pub mod PhraseLists
-pub mod Spelled
 pub mod StatementLaws
-pub mod Taken
-pub mod Wanted

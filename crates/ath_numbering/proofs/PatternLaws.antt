@@ -3,11 +3,11 @@ use Rattle.std.proofs.Common.{◌≡◌, ℕ, List, [], ◌∷◌, ◌++◌, map
 use Rattle.std.specs.Prelude.{All}
 use Rattle.std.proofs.lemmas.List.Elements.{All-nil, All-cons}
 use Rattle.ath_sorts.specs.declared.sorts.Sym.{Sym}
-use Rattle.ath_automaton.specs.declared.tree.PatternTree.{PatternTree, Any, Name, Str, List as Listed, ListOf, App, SomeOf}
-use Rattle.ath_automaton.specs.declared.tree.PatternTree.TheOpen as one
-use Rattle.ath_automaton.specs.declared.tree.PatternTree.TheVariants.{rolls-Any, rolls-Name, rolls-Str, rolls-List, rolls-ListOf, rolls-App, rolls-SomeOf}
-use Rattle.ath_automaton.specs.declared.tree.PatternTree.TheFolds.{fold-roll-PatternTree}
-use Rattle.ath_automaton.specs.Trees.{pattern_of, patterns_of, pattern_step}
+use Rattle.ath_numbering.specs.declared.tree.PatternTree.{PatternTree, Any, Name, Str, List as Listed, ListOf, App, SomeOf}
+use Rattle.ath_numbering.specs.declared.tree.PatternTree.TheOpen as one
+use Rattle.ath_numbering.specs.declared.tree.PatternTree.TheVariants.{rolls-Any, rolls-Name, rolls-Str, rolls-List, rolls-ListOf, rolls-App, rolls-SomeOf}
+use Rattle.ath_numbering.specs.declared.tree.PatternTree.TheFolds.{fold-roll-PatternTree}
+use Rattle.ath_numbering.specs.Trees.{pattern_of, patterns_of, pattern_step}
 use Rattle.ath_syntax.specs.declared.node.PatId.{PatId}
 use Rattle.ath_syntax.specs.declared.node.PatNode.{PatNode}
 use Rattle.ath_syntax.specs.declared.node.PatNode.TheVariants as node
@@ -17,7 +17,7 @@ use Rattle.ath_syntax.specs.Tree.{Pattern, any_pattern, name_pattern, string_pat
 use Rattle.ath_syntax.specs.Stands.{IsPattern, IsPatternNode, pattern_is_any, pattern_is_name, pattern_is_string, pattern_is_list, pattern_is_list_of, pattern_is_app, pattern_is_some, ArePatterns, patterns_none, patterns_more}
 use Rattle.ath_syntax.proofs.NodeLaws.{pattern_part_of}
 use Rattle.ath_syntax.proofs.Kept.{keep_patterns, keep_pattern_number}
-use Rattle.ath_numbering.specs.Proper.{ProperPattern, ProperPatterns}
+use Rattle.ath_syntax.specs.Proper.{ProperPattern, ProperPatterns}
 use Rattle.ath_numbering.proofs.Listings.{Listing}
 
 any_again : pattern_of Any ≡ any_pattern

@@ -1,19 +1,19 @@
 -- Lists of phrases, bindings and clauses, and their numbers.
 use Rattle.std.proofs.Common.{◌≡◌, List, [], ◌∷◌, ◌++◌, map, Bool, Option, None, subst}
 use Rattle.ath_sorts.specs.declared.sorts.Sym.{Sym}
-use Rattle.ath_automaton.specs.declared.tree.PatternTree.{PatternTree}
-use Rattle.ath_automaton.specs.declared.tree.PhraseTree.{PhraseTree}
-use Rattle.ath_automaton.specs.Trees.{pattern_of, phrase_of, phrases_of, bindings_of, clauses_of, branches_of}
-use Rattle.ath_grammar.specs.declared.lexeme.LetWord.{LetWord}
-use Rattle.ath_grammar.specs.declared.lexeme.LetWord.TheVariants.{Let, LetDeduction, LetRec}
-use Rattle.ath_grammar.specs.Phrases.{let_phrase}
+use Rattle.ath_numbering.specs.declared.tree.PatternTree.{PatternTree}
+use Rattle.ath_numbering.specs.declared.tree.PhraseTree.{PhraseTree}
+use Rattle.ath_numbering.specs.Trees.{pattern_of, phrase_of, phrases_of, bindings_of, clauses_of, branches_of}
+use Rattle.ath_numbering.specs.declared.tree.LetWord.{LetWord}
+use Rattle.ath_numbering.specs.declared.tree.LetWord.TheVariants.{Let, LetRec}
+use Rattle.ath_numbering.specs.Trees.{let_phrase}
 use Rattle.ath_syntax.specs.declared.place.Pos.{Pos}
 use Rattle.ath_syntax.specs.declared.node.PatId.{PatId}
 use Rattle.ath_syntax.specs.declared.node.PhraseId.{PhraseId}
 use Rattle.ath_syntax.specs.Tree.{Phrase, Phrases, no_phrases, more_phrases, Bindings, no_bindings, more_bindings, Clauses, Branches, is_deduction}
 use Rattle.ath_syntax.specs.Stands.{IsPattern, IsPhrase, ArePhrases, phrases_none, phrases_more, AreBindings, bindings_none, bindings_more, AreClauses, clauses_none, clauses_more, AreBranches, branches_none, branches_more}
 use Rattle.ath_syntax.proofs.Kept.{keep_phrases, keep_bindings, keep_clauses, keep_branches}
-use Rattle.ath_numbering.specs.Proper.{Proper, ProperPattern, ProperPhrases, ProperBindings, ProperClosures, bound_kind, ProperClauses, ProperBranches}
+use Rattle.ath_syntax.specs.Proper.{Proper, ProperPattern, ProperPhrases, ProperBindings, ProperClosures, bound_kind, ProperClauses, ProperBranches}
 use Rattle.ath_numbering.proofs.Listings.{Listing}
 
 abbrev pub bindings_read : List (Sym × PhraseTree) → Bindings
@@ -91,5 +91,4 @@ loose_closures (more_bindings n x bs) p = (tt, p.1, loose_closures bs p.2)
 
 pub let_rows : (w : LetWord) (p : Pos) (bs : Bindings) (x : Phrase) → Proper (let_phrase w p bs x) → ProperBindings None bs
 let_rows Let p bs x q = loose_bindings (bound_kind (is_deduction x)) bs q.2
-let_rows LetDeduction p bs x q = loose_bindings (bound_kind (is_deduction x)) bs q.2
 let_rows LetRec p bs x q = loose_closures bs q.2

@@ -1,11 +1,11 @@
 -- Directives whose phrases are numbered.
 use Rattle.std.proofs.Common.{◌≡◌, ℕ, List, Bool, Option, sym, subst}
 use Rattle.ath_sorts.specs.declared.sorts.Sym.{Sym}
-use Rattle.ath_automaton.specs.declared.tree.PhraseTree.{PhraseTree}
-use Rattle.ath_automaton.specs.declared.tree.StatementTree.{StatementTree}
-use Rattle.ath_automaton.specs.declared.tree.StatementTree.TheVariants as says
-use Rattle.ath_automaton.specs.declared.tree.DirectiveTree.{DirectiveTree}
-use Rattle.ath_automaton.specs.Trees.{phrase_of, statement_of, directive_of}
+use Rattle.ath_numbering.specs.declared.tree.PhraseTree.{PhraseTree}
+use Rattle.ath_numbering.specs.declared.tree.StatementTree.{StatementTree}
+use Rattle.ath_numbering.specs.declared.tree.StatementTree.TheVariants as says
+use Rattle.ath_numbering.specs.declared.tree.DirectiveTree.{DirectiveTree}
+use Rattle.ath_numbering.specs.Trees.{phrase_of, statement_of, directive_of}
 use Rattle.ath_syntax.specs.declared.node.PhraseId.{PhraseId}
 use Rattle.ath_syntax.specs.declared.node.SortText.{SortText}
 use Rattle.ath_syntax.specs.declared.directive.What.{What}

@@ -1,11 +1,14 @@
-//! Numbers for trees: nodes made of what is read.
+//! What is read, as trees, and numbers for them: nodes made of what is read.
 #![tactic(auto)]
 
-pub mod laws;
+pub mod kind;
 pub mod number;
 pub mod pattern;
 pub mod statement;
+pub mod tree;
 
-pub use number::number_phrase;
-pub use pattern::number_pattern;
 pub use statement::number_directive;
+pub use tree::{
+    ClauseWord, ClosureWord, DirectiveTree, HypothesisWord, LetWord, PatternTree, PhraseTree,
+    StatementTree,
+};

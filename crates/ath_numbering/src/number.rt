@@ -1,17 +1,16 @@
 // Phrases become numbered nodes.
 
 ghost use Rattle.std.specs.Prelude.{Bool, IfOk, None, map, option_map};
-ghost use Rattle.ath_automaton.specs.Trees.{phrase_of, pattern_of, phrases_of, bindings_of, clauses_of, branches_of, otherwise_of};
-ghost use Rattle.ath_grammar.specs.Phrases.{closure_at, hypothesis_at, clauses_at, let_phrase};
-ghost use Rattle.ath_numbering.specs.Proper.{Proper, ProperPhrases, ProperBindings, ProperClauses, ProperBranches};
+ghost use Rattle.ath_numbering.specs.Trees.{phrase_of, pattern_of, phrases_of, bindings_of, clauses_of, branches_of, otherwise_of};
+ghost use Rattle.ath_numbering.specs.Trees.{closure_at, hypothesis_at, clauses_at, let_phrase};
+ghost use Rattle.ath_syntax.specs.Proper.{Proper, ProperPhrases, ProperBindings, ProperClauses, ProperBranches};
 ghost use Rattle.ath_syntax.specs.Nodes.{Grows};
 ghost use Rattle.ath_syntax.specs.Stands.{IsForm, IsPhrase, ArePhrases, AreBindings, AreClauses, AreBranches};
 ghost use Rattle.ath_syntax.specs.Tree.{ascribe_at, apply_at, call_at, check_at, pick_any_at, pick_witness_at};
 
+use crate::kind::is_deduction;
 use crate::pattern::number_pattern;
-use ath_automaton::kind::is_deduction;
-use ath_automaton::{PatternTree, PhraseTree};
-use ath_grammar::{ClauseWord, ClosureWord, HypothesisWord, LetWord};
+use crate::tree::{ClauseWord, ClosureWord, HypothesisWord, LetWord, PatternTree, PhraseTree};
 use ath_sorts::Sym;
 use ath_syntax::{Form, Node, PatId, PhraseId, Phrases, Pos, SortText};
 use sqlite_items::{Boxed, Items};
@@ -156,9 +155,9 @@ fn closure(
     }
 }
 
-// `let`, `dlet` and `letrec`.
+// `let` and `letrec`.
 #[cycle(phrases)]
-#[tactic(auto, using(crate::proofs::FormLaws::let_form, crate::proofs::FormLaws::let_deduction_form, crate::proofs::FormLaws::letrec_form, crate::proofs::PhraseLists::let_rows))]
+#[tactic(auto, using(crate::proofs::FormLaws::let_form, crate::proofs::FormLaws::letrec_form, crate::proofs::PhraseLists::let_rows))]
 fn bind(
     alloc: Global,
     phrases: &mut Phrases,
@@ -175,14 +174,13 @@ fn bind(
     let body = number_phrase(alloc, phrases, body.into_inner())?;
     match word {
         LetWord::Let => Ok((pos, Form::Let(rows, body))),
-        LetWord::LetDeduction => Ok((pos, Form::Let(rows, body))),
         LetWord::LetRec => Ok((pos, Form::LetRec(rows, body))),
     }
 }
 
 // The forms with an expression and then clauses.
 #[cycle(phrases)]
-#[tactic(auto, using(crate::proofs::FormLaws::match_form, crate::proofs::FormLaws::match_deduction_form, crate::proofs::FormLaws::induct_form, crate::proofs::FormLaws::cases_form))]
+#[tactic(auto, using(crate::proofs::FormLaws::match_form, crate::proofs::FormLaws::induct_form, crate::proofs::FormLaws::cases_form))]
 fn choose(
     alloc: Global,
     phrases: &mut Phrases,
@@ -199,7 +197,6 @@ fn choose(
     let clauses = number_clauses(alloc, phrases, clauses)?;
     match word {
         ClauseWord::Match => Ok((pos, Form::Match(subject, clauses))),
-        ClauseWord::MatchDeduction => Ok((pos, Form::Match(subject, clauses))),
         ClauseWord::Induct => Ok((pos, Form::Induct(subject, clauses))),
         ClauseWord::Cases => Ok((pos, Form::Cases(subject, clauses))),
     }

@@ -1,12 +1,12 @@
 // Patterns become numbered nodes.
 
 ghost use Rattle.std.specs.Prelude.{IfOk, map};
-ghost use Rattle.ath_automaton.specs.Trees.{pattern_of, patterns_of};
-ghost use Rattle.ath_numbering.specs.Proper.{ProperPattern, ProperPatterns};
+ghost use Rattle.ath_numbering.specs.Trees.{pattern_of, patterns_of};
+ghost use Rattle.ath_syntax.specs.Proper.{ProperPattern, ProperPatterns};
 ghost use Rattle.ath_syntax.specs.Nodes.{Grows};
 ghost use Rattle.ath_syntax.specs.Stands.{IsPattern, IsPatternNode, ArePatterns};
 
-use ath_automaton::PatternTree;
+use crate::tree::PatternTree;
 use ath_syntax::{PatId, PatNode, Phrases};
 use sqlite_items::Items;
 use std::alloc::{AllocError, Global};

@@ -1,13 +1,13 @@
 // Directives whose phrases are numbered.
 
 ghost use Rattle.std.specs.Prelude.{IfOk};
-ghost use Rattle.ath_automaton.specs.Trees.{statement_of, directive_of};
-ghost use Rattle.ath_numbering.specs.Proper.{ProperStatement, ProperDirective};
+ghost use Rattle.ath_numbering.specs.Trees.{statement_of, directive_of};
+ghost use Rattle.ath_syntax.specs.Proper.{ProperStatement, ProperDirective};
 ghost use Rattle.ath_syntax.specs.Nodes.{Grows};
 ghost use Rattle.ath_syntax.specs.Stands.{IsStatement, IsDirective};
 
 use crate::number::number_phrase;
-use ath_automaton::{DirectiveTree, StatementTree};
+use crate::tree::{DirectiveTree, StatementTree};
 use ath_syntax::{Directive, Phrases, What};
 use std::alloc::{AllocError, Global};
 

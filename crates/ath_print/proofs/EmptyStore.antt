@@ -4,13 +4,13 @@ use Rattle.ath_sorts.specs.declared.sorts.SVar.{SVar}
 use Rattle.ath_sorts.specs.declared.sorts.Sort.{Var}
 use Rattle.ath_sorts.specs.Signature.{Signature, initial}
 use Rattle.ath_sorts.proofs.ValidityLaws.{initial_valid}
-use Rattle.ath_terms.specs.declared.node.Var.{Var as Variable}
+use Rattle.ath_trees.specs.declared.node.Var.{Var as Variable}
 use Rattle.ath_terms.specs.declared.node.TermNode.TheVariants as Node
-use Rattle.ath_terms.specs.Tree.{Term}
+use Rattle.ath_trees.specs.Tree.{Term}
 use Rattle.ath_terms.specs.Nodes.{term_tree}
 use Rattle.ath_terms.specs.Trees.{Trees}
-use Rattle.ath_terms.specs.WellSorted.{HasSort, is_valid_sort}
-use Rattle.ath_terms.proofs.ValidSorts.{valid-var}
+use Rattle.ath_trees.specs.WellSorted.{HasSort, is_valid_sort}
+use Rattle.ath_trees.proofs.ValidSorts.{valid-var}
 use Rattle.ath_terms.specs.SortsIn.{IsSortedIn}
 
 pub empty_sorted : (sig : Signature) (s : Trees) → sig ≡ initial → s ≡ record { terms = []; sorts = []; sents = [] } → IsSortedIn sig s

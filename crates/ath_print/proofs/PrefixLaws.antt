@@ -13,22 +13,23 @@ use Rattle.ath_sorts.specs.declared.signature.Symbol.{Symbol}
 use Rattle.ath_sorts.specs.Signature.{Signature}
 use Rattle.ath_sorts.specs.Unifiers.{same_sort}
 use Rattle.ath_sorts.proofs.SameSorts.{same_sort-refl, same_sort-true}
-use Rattle.ath_terms.specs.declared.node.Var.{Var as Variable}
-use Rattle.ath_terms.specs.declared.node.TermId.{TermId}
-use Rattle.ath_terms.specs.SortsIn.{sort_in, result_sort, IsSortedIn}
-use Rattle.ath_terms.specs.declared.node.SentId.{SentId}
-use Rattle.ath_terms.specs.declared.node.Conn.{Conn}
-use Rattle.ath_terms.specs.declared.node.Conn.TheVariants.{Not, And, Or, If, Iff}
-use Rattle.ath_terms.specs.declared.node.Quant.{Quant}
+use Rattle.ath_trees.specs.declared.node.Var.{Var as Variable}
+use Rattle.ath_trees.specs.declared.node.TermId.{TermId}
+use Rattle.ath_trees.specs.SortsIn.{sort_in, result_sort}
+use Rattle.ath_terms.specs.SortsIn.{IsSortedIn}
+use Rattle.ath_trees.specs.declared.node.SentId.{SentId}
+use Rattle.ath_trees.specs.declared.node.Conn.{Conn}
+use Rattle.ath_trees.specs.declared.node.Conn.TheVariants.{Not, And, Or, If, Iff}
+use Rattle.ath_trees.specs.declared.node.Quant.{Quant}
 use Rattle.ath_terms.specs.declared.node.TermNode.{TermNode}
 use Rattle.ath_terms.specs.declared.node.TermNode.TheVariants.{App}
 use Rattle.ath_terms.specs.declared.node.SentNode.{SentNode}
 use Rattle.ath_terms.specs.declared.node.SentNode.TheVariants.{Conn as ConnNode, Quant as QuantNode}
 use Rattle.ath_terms.specs.Nodes.{arity, conn_tree, term_tree, sent_tree, IsSentBelow}
-use Rattle.ath_terms.specs.Tree.{Term, var, app, listed, Sent}
+use Rattle.ath_trees.specs.Tree.{Term, var, app, listed, Sent}
 use Rattle.ath_terms.specs.Trees.{Trees, term_at, sort_at, sent_at}
-use Rattle.ath_terms.specs.Variables.{same_var}
-use Rattle.ath_terms.specs.WellSorted.{HasSort}
+use Rattle.ath_trees.specs.Variables.{same_var}
+use Rattle.ath_trees.specs.WellSorted.{HasSort}
 use Rattle.ath_env.specs.LookUp.{text_of}
 use Rattle.ath_print.specs.Printers.{Printed, Printer, word, in_turn, spaced, item, after}
 use Rattle.ath_print.proofs.PieceLaws.{after_none, after_five, after_spaced, item_whole}

@@ -8,10 +8,11 @@ use Rattle.ath_sorts.specs.Sorts.{image}
 use Rattle.ath_sorts.specs.Signature.{Signature, initial}
 use Rattle.ath_sorts.proofs.SortLaws.{apply-var, apply-con}
 use Rattle.ath_sorts.proofs.SameSorts.{same_sort-refl}
-use Rattle.ath_terms.specs.declared.node.Var.{Var as Variable}
-use Rattle.ath_terms.specs.declared.node.Conn.TheVariants.{If}
-use Rattle.ath_terms.specs.declared.node.Quant.TheVariants.{Forall}
-use Rattle.ath_terms.specs.Tree.{Term, var, app, none, atom, equal, joined, bound, constant}
+use Rattle.ath_trees.specs.declared.node.Var.{Var as Variable}
+use Rattle.ath_trees.specs.declared.node.Conn.TheVariants.{If}
+use Rattle.ath_trees.specs.declared.node.Binary.TheVariants as binary
+use Rattle.ath_trees.specs.declared.node.Quant.TheVariants.{Forall}
+use Rattle.ath_trees.specs.Tree.{Term, var, app, none, atom, equal, joined, bound, constant}
 use Rattle.ath_env.specs.Values.{a_term, a_sentence, a_connective}
 use Rattle.ath_print.specs.declared.fault.FaultKind.TheVariants.{ArgCount, LooseParam, NotInBase, SortClash}
 use Rattle.ath_print.specs.Events.{sentence_named, sort_named, variable_named, number_named, shown, refused, exhausted}
@@ -28,7 +29,7 @@ two_numbers : line_of names initial files (refused (record { file = 1; line = 2;
 unfolding digits
 two_numbers = refl
 
-a_conditional : line_of names initial files (refused (record { file = 0; line = 1; col = 1 }) (record { kind = NotInBase; args = sentence_named (joined If (atom (constant (record { 0 = 1 }))) (atom (constant (record { 0 = 2 })))) ∷ [] })) ≡ codes "Error: \"a \\\"b\\\".ath\":1:1: NotInBase (if A B)\n"
+a_conditional : line_of names initial files (refused (record { file = 0; line = 1; col = 1 }) (record { kind = NotInBase; args = sentence_named (joined binary.If (atom (constant (record { 0 = 1 }))) (atom (constant (record { 0 = 2 })))) ∷ [] })) ≡ codes "Error: \"a \\\"b\\\".ath\":1:1: NotInBase (if A B)\n"
 unfolding digits
 a_conditional = refl
 

@@ -3,7 +3,7 @@ use Rattle.std.specs.Prelude.{ℕ, List, Bool, true, false}
 use Rattle.ath_sorts.specs.declared.sorts.Sym.{Sym}
 use Rattle.ath_sorts.specs.declared.sorts.Sort.{Sort}
 use Rattle.ath_syntax.specs.declared.place.Pos.{Pos}
-use Rattle.ath_terms.specs.Tree.{Term, Sent}
+use Rattle.ath_trees.specs.Tree.{Term, Sent}
 use Rattle.ath_env.specs.Values.{Value}
 use Rattle.ath_print.specs.declared.fault.FaultKind.{FaultKind}
 
@@ -23,9 +23,9 @@ pub record Refusal : Type 0 where
 
 pub data Event : Type 0 where
   -- a domain
-  domain_declared : Sym → Event
+  domain_added : Sym → Event
   -- symbols
-  declared : List Sym → Event
+  symbols_added : List Sym → Event
   asserted : Sent → Event
   proved : Sent → Event
   shown : Value → Event
@@ -33,20 +33,45 @@ pub data Event : Type 0 where
   -- no fuel is left for the phrase at this place
   exhausted : Pos → Event
 
+-- What an event is to a run, whatever else it tells.
+pub data Role : Type 0 where
+  -- a sentence is asserted
+  an_assertion : Sent → Role
+  -- a theorem is concluded
+  a_theorem : Sent → Role
+  -- a directive or a text is refused
+  a_refusal : Role
+  -- the fuel is at its end
+  an_end : Role
+  -- it only tells
+  a_note : Role
+
+abbrev pub role_of : Event → Role
+role_of (domain_added n) = a_note
+role_of (symbols_added ns) = a_note
+role_of (asserted p) = an_assertion p
+role_of (proved p) = a_theorem p
+role_of (shown v) = a_note
+role_of (refused at why) = a_refusal
+role_of (exhausted at) = an_end
+
+abbrev pub is_theorem_role : Role → Bool
+is_theorem_role (a_theorem p) = true
+is_theorem_role _ = false
+
+abbrev pub is_refusal_role : Role → Bool
+is_refusal_role a_refusal = true
+is_refusal_role _ = false
+
+abbrev pub is_end_role : Role → Bool
+is_end_role an_end = true
+is_end_role _ = false
+
+abbrev pub is_theorem : Event → Bool
+is_theorem e = is_theorem_role (role_of e)
+
 abbrev pub is_refused : Event → Bool
-is_refused (domain_declared n) = false
-is_refused (declared ns) = false
-is_refused (asserted p) = false
-is_refused (proved p) = false
-is_refused (shown v) = false
-is_refused (refused at why) = true
-is_refused (exhausted at) = false
+is_refused e = is_refusal_role (role_of e)
 
 abbrev pub is_exhausted : Event → Bool
-is_exhausted (domain_declared n) = false
-is_exhausted (declared ns) = false
-is_exhausted (asserted p) = false
-is_exhausted (proved p) = false
-is_exhausted (shown v) = false
-is_exhausted (refused at why) = false
-is_exhausted (exhausted at) = true
+is_exhausted e = is_end_role (role_of e)

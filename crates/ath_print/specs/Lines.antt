@@ -5,12 +5,12 @@ use Rattle.std.specs.Fmt.{decimal}
 use Rattle.ath_sorts.specs.declared.sorts.Sym.{Sym}
 use Rattle.ath_sorts.specs.Signature.{Signature}
 use Rattle.ath_syntax.specs.declared.place.Pos.{Pos}
-use Rattle.ath_terms.specs.Tree.{Term, Sent}
+use Rattle.ath_trees.specs.Tree.{Term, Sent}
 use Rattle.ath_env.specs.Values.{Value, a_term, a_sentence, a_symbol, a_connective, a_quantifier, a_back, a_method}
 use Rattle.ath_env.specs.LookUp.{text_of}
 use Rattle.ath_print.specs.declared.fault.FaultKind.{FaultKind}
 use Rattle.ath_print.specs.declared.fault.FaultKind.TheVariants.{BadUtf8, BadChar, OpenString, NameTooLong, Unexpected, Unclosed, KindMix, TooDeep, NotBuilt, Redeclared, UnknownSort, Arity, LooseParam, TooWide, SortTooLarge, Unbound, FileTooLong, TooManyLoads, SortClash, ArgCount, NotBoolean, TooLarge, TooNested, WrongKind, WrongShape, NotInBase, NotApplicable, NotMethod, NotSentence}
-use Rattle.ath_print.specs.Events.{Argument, sentence_named, term_named, sort_named, variable_named, name_named, number_named, Refusal, Event, domain_declared, declared, asserted, proved, shown, refused, exhausted}
+use Rattle.ath_print.specs.Events.{Argument, sentence_named, term_named, sort_named, variable_named, name_named, number_named, Refusal, Event, domain_added, symbols_added, asserted, proved, shown, refused, exhausted}
 use Rattle.ath_print.specs.Printers.{Printer, word, spaced}
 pub use Rattle.ath_print.specs.Prefix.{conn_text, quant_text}
 use Rattle.ath_print.specs.Prefix.{sort_printed, term_printed, sent_printed}
@@ -113,8 +113,8 @@ abbrev pub place_text : List (List ℕ) → Pos → List ℕ
 place_text files at = quoted (slice_index_or files at.file []) ++ codes ":" ++ decimal at.line ++ codes ":" ++ decimal at.col
 
 abbrev pub text_of_event : List (List ℕ) → Signature → List (List ℕ) → Event → List ℕ
-text_of_event names sig files (domain_declared n) = codes "Domain: " ++ text_of names n
-text_of_event names sig files (declared ns) = codes "Symbols: " ++ listed names ns
+text_of_event names sig files (domain_added n) = codes "Domain: " ++ text_of names n
+text_of_event names sig files (symbols_added ns) = codes "Symbols: " ++ listed names ns
 text_of_event names sig files (asserted p) = codes "Assertion: " ++ printed names sig p
 text_of_event names sig files (proved p) = codes "Theorem: " ++ printed names sig p
 text_of_event names sig files (shown v) = shown_text names sig v

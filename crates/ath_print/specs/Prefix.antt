@@ -11,14 +11,14 @@ use Rattle.ath_sorts.specs.declared.sorts.Sort.TheFolds.{fold-Sort}
 use Rattle.ath_sorts.specs.declared.signature.Symbol.{Symbol}
 use Rattle.ath_sorts.specs.Sorts.{same_svar, occurs}
 use Rattle.ath_sorts.specs.Signature.{Signature, symbol_of}
-use Rattle.ath_terms.specs.declared.node.Var.{Var}
-use Rattle.ath_terms.specs.declared.node.Conn.{Conn}
-use Rattle.ath_terms.specs.declared.node.Conn.TheVariants.{Not, And, Or, If, Iff}
-use Rattle.ath_terms.specs.declared.node.Quant.{Quant}
-use Rattle.ath_terms.specs.declared.node.Quant.TheVariants.{Forall, Exists}
-use Rattle.ath_terms.specs.SortsIn.{result_sort}
-use Rattle.ath_terms.specs.Tree.{Term, Terms, var, app, none, more, Sent, atom, equal, negated, joined, bound}
-use Rattle.ath_terms.specs.Variables.{same_var}
+use Rattle.ath_trees.specs.declared.node.Var.{Var}
+use Rattle.ath_trees.specs.declared.node.Conn.{Conn}
+use Rattle.ath_trees.specs.declared.node.Conn.TheVariants.{Not, And, Or, If, Iff}
+use Rattle.ath_trees.specs.declared.node.Quant.{Quant}
+use Rattle.ath_trees.specs.declared.node.Quant.TheVariants.{Forall, Exists}
+use Rattle.ath_trees.specs.SortsIn.{result_sort}
+use Rattle.ath_trees.specs.Tree.{Term, Terms, var, app, none, more, Sent, atom, equal, negated, joined, bound, conn_of}
+use Rattle.ath_trees.specs.Variables.{same_var}
 use Rattle.ath_env.specs.LookUp.{text_of}
 use Rattle.ath_print.specs.Printers.{Printed, Printer, word, in_turn, item}
 
@@ -101,5 +101,5 @@ abbrev pub sent_printed : List (List ℕ) → Signature → List Var → Sent �
 sent_printed names sig binders (atom t) = term_printed names sig binders t
 sent_printed names sig binders (equal s t) = item (codes "=") (term_printed names sig binders s ∷ term_printed names sig binders t ∷ [])
 sent_printed names sig binders (negated p) = item (conn_text Not) (sent_printed names sig binders p ∷ [])
-sent_printed names sig binders (joined c p q) = item (conn_text c) (sent_printed names sig binders p ∷ sent_printed names sig binders q ∷ [])
+sent_printed names sig binders (joined c p q) = item (conn_text (conn_of c)) (sent_printed names sig binders p ∷ sent_printed names sig binders q ∷ [])
 sent_printed names sig binders (bound k v p) = item (quant_text k) (with_sort names v ∷ sent_printed names sig (binders ++ v ∷ []) p ∷ [])

@@ -8,7 +8,7 @@ use Rattle.ath_print.specs.declared.fault.FaultArg.{FaultArg}
 use Rattle.ath_print.specs.declared.fault.FaultArg.TheVariants.{Sent, Term, Sort, Name, SortName, Number}
 use Rattle.ath_print.specs.declared.event.Event.{Event as Told}
 use Rattle.ath_print.specs.declared.event.Event.TheVariants.{Domain, Symbols, Assertion, Theorem, Shown, Error, Fuel}
-use Rattle.ath_print.specs.Events.{Argument, sentence_named, term_named, sort_named, variable_named, name_named, number_named, Refusal, Event, domain_declared, declared, asserted, proved, shown, refused, exhausted}
+use Rattle.ath_print.specs.Events.{Argument, sentence_named, term_named, sort_named, variable_named, name_named, number_named, Refusal, Event, domain_added, symbols_added, asserted, proved, shown, refused, exhausted}
 
 abbrev pub argument_of : Trees → FaultArg → Argument
 argument_of s (Sent p) = sentence_named (sent_at s.sents p.0)
@@ -37,8 +37,8 @@ abbrev pub IsFault : Trees → Fault → Refusal → Type 0
 IsFault s f why = IsFaultIn s f × (refusal_of s f ≡ why)
 
 abbrev pub event_of : Trees → Told → Event
-event_of s (Domain n) = domain_declared n
-event_of s (Symbols ns) = declared ns
+event_of s (Domain n) = domain_added n
+event_of s (Symbols ns) = symbols_added ns
 event_of s (Assertion p) = asserted (sent_at s.sents p.0)
 event_of s (Theorem p) = proved (sent_at s.sents p.0)
 event_of s (Shown v) = shown (value_at s v)

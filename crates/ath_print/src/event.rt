@@ -4,7 +4,7 @@ use crate::fault::Fault;
 use ath_env::Value;
 use ath_sorts::Sym;
 use ath_syntax::Pos;
-use ath_terms::SentId;
+use ath_trees::SentId;
 use sqlite_items::Items;
 
 /// What a directive does that is told.

@@ -3,7 +3,7 @@
 ghost use Rattle.std.specs.Prelude.{◌≡◌, [], ◌∷◌, IfOk};
 
 use ath_sorts::{Sort, Sym};
-use ath_terms::{SentId, TermId};
+use ath_trees::{SentId, TermId};
 use sqlite_items::Items;
 use std::alloc::{AllocError, Global};
 

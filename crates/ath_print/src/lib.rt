@@ -16,3 +16,4 @@ mod words;
 pub use event::Event;
 pub use fault::{Fault, FaultArg, FaultKind};
 pub use lines::line;
+pub use pieces::{push, push_quoted};

@@ -23,7 +23,8 @@ use ath_env::{Value, text_of};
 use ath_names::Names;
 use ath_sorts::{Signature, Sym};
 use ath_syntax::Pos;
-use ath_terms::{SentId, Store, TermId};
+use ath_terms::Store;
+use ath_trees::{SentId, TermId};
 use std::alloc::{AllocError, Global};
 
 /// A sentence alone, outside of binders.

@@ -2,7 +2,7 @@
 
 ghost use Rattle.std.specs.Prelude.{◌≡◌, ◌<◌, ◌++◌, ◌∷◌, [], codes, length, map, OnOk};
 ghost use Rattle.ath_terms.specs.SortsIn.{IsSortedIn};
-ghost use Rattle.ath_terms.specs.Tree.{equal};
+ghost use Rattle.ath_trees.specs.Tree.{equal};
 ghost use Rattle.ath_terms.specs.Trees.{term_at, sent_at};
 ghost use Rattle.ath_print.specs.Printers.{word, in_turn, GoesOn};
 ghost use Rattle.ath_print.specs.Prefix.{quant_text, with_sort, sent_printed};
@@ -12,7 +12,8 @@ use crate::terms::{put_term, put_with_sort};
 use crate::words::{connective, quantifier};
 use ath_names::Names;
 use ath_sorts::Signature;
-use ath_terms::{Quant, SentId, SentNode, Store, TermId, Var};
+use ath_terms::{SentNode, Store};
+use ath_trees::{Quant, SentId, TermId, Var};
 use std::alloc::{AllocError, Global};
 
 fn put_equation(

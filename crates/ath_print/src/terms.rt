@@ -5,7 +5,7 @@ ghost use Rattle.std.specs.List.{list_any};
 ghost use Rattle.ath_sorts.specs.Signature.{symbol_of};
 ghost use Rattle.ath_terms.specs.SortsIn.{IsSortedIn};
 ghost use Rattle.ath_terms.specs.Trees.{term_at};
-ghost use Rattle.ath_terms.specs.Variables.{same_var};
+ghost use Rattle.ath_trees.specs.Variables.{same_var};
 ghost use Rattle.ath_print.specs.Printers.{word, item, GoesOn};
 ghost use Rattle.ath_print.specs.Prefix.{var_text, with_sort, occurrence, is_unsaid, leaves_unsaid, is_ascribed, term_printed, plain_printed};
 
@@ -15,7 +15,8 @@ use ath_env::text_of;
 use ath_names::Names;
 use ath_sorts::sorts::{is_same, occurs_in};
 use ath_sorts::{SVar, Signature, Sort, Sym};
-use ath_terms::{Store, TermId, TermNode, Var};
+use ath_terms::{Store, TermNode};
+use ath_trees::{TermId, Var};
 use std::alloc::{AllocError, Global};
 
 fn is_same_var(v: &Var, w: &Var) -> bool

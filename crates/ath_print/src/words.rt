@@ -5,7 +5,7 @@ ghost use Rattle.std.specs.String.{string_bytes};
 ghost use Rattle.ath_print.specs.Lines.{conn_text, quant_text, method_text, kind_text};
 
 use crate::fault::FaultKind;
-use ath_terms::{Conn, Quant};
+use ath_trees::{Conn, Quant};
 
 pub fn file_name(files: &[String], number: usize) -> &str
     ensures { result.now ≡ slice_index_or (map string_bytes files.now) number [] }

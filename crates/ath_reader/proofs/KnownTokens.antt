@@ -29,7 +29,7 @@ use Rattle.ath_tokens.specs.Spelling.{Lexeme, word, var, sort_var, str, punct, b
 use Rattle.ath_tokens.proofs.CutLaws.{found_is_longest}
 use Rattle.ath_lexemes.specs.Lexemes.{word_lexeme, text_of, IsNumbered, lexeme_of}
 use Rattle.ath_lexemes.proofs.LexemeLaws.{some_words, wild_is_one}
-use Rattle.ath_numbering.specs.Known.{IsKnown, Known}
+use Rattle.ath_grammar.specs.Known.{IsKnown, Known}
 use Rattle.ath_reader.specs.Ahead.{number_in, seen_as, Ahead, a_token, the_end, a_fault, ahead, Reads, reads_none, reads_more, names_past}
 use Rattle.ath_reader.proofs.Carried.{reads_snoc}
 

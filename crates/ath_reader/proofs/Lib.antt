@@ -1,14 +1,14 @@
 pub mod Advance
-mod Carried
-mod Endings
+pub mod Carried
 mod Growth
 mod KnownTokens
-mod Landings
+pub mod Machines
 pub mod NextAnswers
 mod Numbered
 pub mod OneNext
 mod ProperRead
 mod Seen
 pub mod SomeNext
+pub mod Steps
 mod Turned
 mod Viewed

@@ -3,10 +3,10 @@ use Rattle.std.proofs.Common.{◌≡◌, ℕ, ◌≤◌, List, length, ap, Some,
 use Rattle.ath_syntax.specs.declared.directive.Directive.{Directive}
 use Rattle.ath_syntax.specs.Nodes as syntax
 use Rattle.ath_syntax.specs.Stands.{IsDirective}
-use Rattle.ath_automaton.specs.declared.tree.DirectiveTree as read
-use Rattle.ath_automaton.specs.Trees.{directive_of}
+use Rattle.ath_numbering.specs.declared.tree.DirectiveTree as read
+use Rattle.ath_numbering.specs.Trees.{directive_of}
 use Rattle.ath_names.specs.Names.{IsTable, Grows, first_names}
-use Rattle.ath_numbering.specs.Proper.{ProperDirective}
+use Rattle.ath_syntax.specs.Proper.{ProperDirective}
 use Rattle.ath_tokens.specs.Cutting.{Cutting}
 use Rattle.ath_reader.specs.declared.reader.SyntaxError.{SyntaxError}
 use Rattle.ath_reader.specs.declared.reader.SyntaxKind.TheVariants.{Memory}

@@ -1,18 +1,18 @@
 -- One thing alone is next in a text.
-use Rattle.std.proofs.Common.{◌≡◌, ℕ, ◌≤◌, List, [], ◌∷◌, ◌++◌, length, take, true, false, Option, Some, None, refl, sym, ap, ◌∙◌, subst, arith, ◌⊎◌, inl, inr}
+use Rattle.std.proofs.Common.{◌≡◌, ℕ, ◌≤◌, List, [], ◌∷◌, ◌++◌, length, take, true, false, Option, Some, None, refl, sym, ap, ◌∙◌, subst, append_assoc, arith, ◌⊎◌, inl, inr}
 use Rattle.ath_syntax.specs.declared.place.Pos.{Pos}
 use Rattle.ath_syntax.specs.Tree.{DirectiveTree}
 use Rattle.ath_grammar.specs.Tokens.{Placed}
-use Rattle.ath_grammar.specs.Directives.{SpellsDirective, Begins}
-use Rattle.ath_grammar.specs.Machine.{Config, read_on, beginning}
-use Rattle.ath_grammar.proofs.Ready.{append_assoc}
-use Rattle.ath_grammar.proofs.Runs.{loosely}
-use Rattle.ath_grammar.proofs.Whole as machine
+use Rattle.ath_grammar.specs.declared.item.Item.{Item}
+use Rattle.ath_grammar.specs.Levels.{depth}
+use Rattle.ath_grammar.specs.Trees.{Value}
+use Rattle.ath_grammar.specs.Directives.{SpellsDirective, Begins, after}
+use Rattle.ath_grammar.proofs.Readings.{begins, unread, no_two}
 use Rattle.ath_reader.specs.declared.reader.SyntaxError.{SyntaxError}
 use Rattle.ath_reader.specs.declared.reader.SyntaxKind.{SyntaxKind}
 use Rattle.ath_reader.specs.declared.reader.SyntaxKind.TheVariants.{Lex, Unexpected, Unclosed, KindMix, TooDeep}
 use Rattle.ath_reader.specs.Ahead.{Ahead, a_token, the_end, a_fault, ahead, Reads, reads_none, reads_more, Follows, follows_token, follows_end, follows_fault, names_past}
-use Rattle.ath_reader.specs.Reading.{depth, Reading, Front, IsWhole, IsCut, Fails, Refuses}
+use Rattle.ath_reader.specs.Reading.{Reading, Front, IsWhole, IsCut, Fails, Refuses}
 use Rattle.ath_reader.specs.Next.{whole, ended, stopped, Spelled, OneNext}
 use Rattle.ath_reader.proofs.Advance.{none_whole}
 use Rattle.ath_reader.proofs.KnownTokens.{same_token}
@@ -20,11 +20,11 @@ use Rattle.ath_reader.proofs.KnownTokens.{same_token}
 -- Fronts of tokens.
 
 loose : (ts : List Placed) → Begins true ts → Begins false ts
-loose ts h = by (read_on true (Some beginning) ts) refl
+loose ts h = by (after ts) refl
   where
-    by : (o : Option Config) → read_on true (Some beginning) ts ≡ o → Begins false ts
-    by None e = absurd (machine.refused true ts e h)
-    by (Some st) e = machine.begins false ts st (loosely ts st e)
+    by : (o : Option (List Item × List Value)) → after ts ≡ o → Begins false ts
+    by None e = absurd (unread ts e h)
+    by (Some s) e = begins false ts s.0 s.1 e
 
 begins_front : (ts : List Placed) (t : Placed) (rest : List Placed) → Begins true (ts ++ t ∷ rest) → Begins true (ts ++ t ∷ [])
 begins_front ts t rest (more, d, h) = (rest ++ more, d, subst (λ (us : List Placed). SpellsDirective true us d []) (append_assoc ts (t ∷ rest) more ∙ sym (append_assoc ts (t ∷ []) (rest ++ more))) h)
@@ -114,7 +114,7 @@ module _ (r : Reading) (names : List (List ℕ)) (from : ℕ) where
   longer_not_whole f g d l w = by (longer_begins f g l)
     where
       by : Begins true (f.tokens ++ l.token ∷ l.rest) → ⊥
-      by (more, e, h) = clash (machine.no_two true (f.tokens ++ (l.token ∷ (l.rest ++ more))) d e (l.token ∷ (l.rest ++ more)) [] (subst (λ (n : Ahead). IsWhole f.tokens n d) l.comes w (l.token ∷ (l.rest ++ more)) follows_token) (subst (λ (us : List Placed). SpellsDirective true us e []) (append_assoc f.tokens (l.token ∷ l.rest) more) h)).1
+      by (more, e, h) = clash (no_two true (f.tokens ++ (l.token ∷ (l.rest ++ more))) d e (l.token ∷ (l.rest ++ more)) [] (subst (λ (n : Ahead). IsWhole f.tokens n d) l.comes w (l.token ∷ (l.rest ++ more)) follows_token) (subst (λ (us : List Placed). SpellsDirective true us e []) (append_assoc f.tokens (l.token ∷ l.rest) more) h)).1
         where
           clash : l.token ∷ (l.rest ++ more) ≡ [] → ⊥
           clash e = cc
@@ -142,7 +142,7 @@ module _ (r : Reading) (names : List (List ℕ)) (from : ℕ) where
   same_fails f g kind pos s h = subst (λ (ts : List Placed). Fails r ts g.next kind pos) s.tokens (subst (λ (n : Ahead). Fails r f.tokens n kind pos) s.next h)
 
   one_tree : (ts : List Placed) (next : Ahead) (d e : DirectiveTree) → IsWhole ts next d → IsWhole ts next e → d ≡ e
-  one_tree ts next d e w v = let (more, h) = some_follow next in (machine.no_two true (ts ++ more) d e more more (w more h) (v more h)).0
+  one_tree ts next d e w v = let (more, h) = some_follow next in (no_two true (ts ++ more) d e more more (w more h) (v more h)).0
 
   whole_not_cut : (ts : List Placed) (next : Ahead) (d : DirectiveTree) → IsWhole ts next d → IsCut ts next → ⊥
   whole_not_cut ts next d w c = let (more, h) = some_follow next in c more d h (w more h)

@@ -5,9 +5,9 @@ use Rattle.ath_grammar.specs.Tokens.{Placed}
 use Rattle.ath_grammar.specs.Directives.{SpellsDirective}
 use Rattle.ath_names.specs.Names.{IsTable, Grows, first_names}
 use Rattle.ath_sorts.specs.declared.sorts.Sym.{Sym}
-use Rattle.ath_numbering.specs.Known.{Known}
-use Rattle.ath_numbering.specs.Proper.{ProperDirective}
-use Rattle.ath_numbering.proofs.Spelled.{spelled_is_proper}
+use Rattle.ath_grammar.specs.Known.{Known}
+use Rattle.ath_syntax.specs.Proper.{ProperDirective}
+use Rattle.ath_grammar.proofs.ProperRead.{spelled_is_proper}
 use Rattle.ath_tokens.specs.declared.tokens.LexKind.{LexKind}
 use Rattle.ath_reader.specs.Ahead.{Ahead, a_token, the_end, a_fault, ahead, Reads, follows_token, follows_end, follows_fault}
 use Rattle.ath_reader.specs.Reading.{IsWhole}

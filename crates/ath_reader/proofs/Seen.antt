@@ -38,12 +38,12 @@ tells names (var text index) = go (number_of names text) refl
   where
     go : (o : Option ℕ) → number_of names text ≡ o → Tells names (var text index) (elim o [ None ↦ None | Some n ↦ Some (token.Var (record { 0 = n }) index) ])
     go None e = tt
-    go (Some n) e = ap (λ (m : Sym). grammar.Lexeme.Var m index) (sym (number_known names text n e))
+    go (Some n) e = ap (λ (m : Sym). grammar.Lexeme.Variable m index) (sym (number_known names text n e))
 tells names (sort_var text) = go (number_of names text) refl
   where
     go : (o : Option ℕ) → number_of names text ≡ o → Tells names (sort_var text) (elim o [ None ↦ None | Some n ↦ Some (token.SortVar (record { 0 = n })) ])
     go None e = tt
-    go (Some n) e = ap (λ (m : Sym). grammar.Lexeme.SortVar m) (sym (number_known names text n e))
+    go (Some n) e = ap (λ (m : Sym). grammar.Lexeme.SortVariable m) (sym (number_known names text n e))
 tells names (str bytes) = refl
 tells names (punct b) = refl
 tells names becomes = refl

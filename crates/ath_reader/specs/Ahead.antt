@@ -2,7 +2,8 @@
 use Rattle.std.specs.Prelude.{◌≡◌, ℕ, List, [], ◌∷◌, Option, Some, None}
 use Rattle.ath_sorts.specs.declared.sorts.Sym.{Sym}
 use Rattle.ath_grammar.specs.declared.lexeme.Lexeme as grammar
-use Rattle.ath_grammar.specs.declared.lexeme.Lexeme.TheVariants.{Var, SortVar, Str, Becomes}
+use Rattle.ath_grammar.specs.declared.lexeme.Lexeme.TheVariants.{Variable, SortVariable, Text, Mark}
+use Rattle.ath_grammar.specs.declared.class.Mark.TheVariants.{Becomes}
 use Rattle.ath_grammar.specs.Tokens.{Placed, at}
 use Rattle.ath_names.specs.Names.{number_of}
 use Rattle.ath_tokens.specs.declared.tokens.LexKind.{LexKind}
@@ -18,11 +19,11 @@ number_in names text = record { 0 = elim (number_of names text) [ None ↦ 0 | S
 -- a token to the grammar, its name by its number among the names
 abbrev pub seen_as : List (List ℕ) → Lexeme → grammar.Lexeme
 seen_as names (word text) = word_lexeme text (number_in names text)
-seen_as names (var text index) = Var (number_in names text) index
-seen_as names (sort_var text) = SortVar (number_in names text)
-seen_as names (str bytes) = Str bytes
+seen_as names (var text index) = Variable (number_in names text) index
+seen_as names (sort_var text) = SortVariable (number_in names text)
+seen_as names (str bytes) = Text bytes
 seen_as names (punct b) = punct_lexeme b
-seen_as names becomes = Becomes
+seen_as names becomes = Mark Becomes
 
 pub data Ahead : Type 0 where
   -- a token, the names with its own among them, and the byte behind it

@@ -1,6 +1,6 @@
 pub mod Ahead
-pub mod Automata
 pub mod Next
 pub mod Operators
 pub mod Reading
+pub mod Runs
 pub mod Steps

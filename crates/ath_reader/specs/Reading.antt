@@ -7,7 +7,7 @@ use Rattle.ath_syntax.specs.Stands.{IsDirective}
 use Rattle.ath_syntax.specs.Tree.{DirectiveTree}
 use Rattle.ath_grammar.specs.Tokens.{Placed, at}
 use Rattle.ath_grammar.specs.Directives.{SpellsDirective, Begins}
-use Rattle.ath_grammar.specs.Machine.{read_on, beginning, level_of}
+use Rattle.ath_grammar.specs.Levels.{depth}
 use Rattle.ath_names.specs.Names as table
 use Rattle.ath_tokens.specs.Cut.{place_of}
 use Rattle.ath_reader.specs.declared.reader.SyntaxError.{SyntaxError}
@@ -30,11 +30,6 @@ pub record Reading : Type 0 where
   pub text : List ℕ
   pub file : ℕ
   pub progress : Progress
-
--- How many levels are open behind tokens that begin a directive: one for each bracket, and for each keyword form without
--- its own pair of parentheses up to its end.
-abbrev pub depth : List Placed → ℕ
-depth ts = elim (read_on true (Some beginning) ts) [ Some st ↦ level_of st | None ↦ 0 ]
 
 -- no more than 500 levels are open behind each front of them
 abbrev pub Shallow : List Placed → Type 0

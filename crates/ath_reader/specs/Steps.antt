@@ -2,11 +2,14 @@
 use Rattle.std.specs.Prelude.{◌≡◌, ℕ, ◌<◌, ◌≤◌, List, [], length, Bool, true, false, Option, Some, None, Result, Ok, Err, ◌⊎◌}
 use Rattle.ath_syntax.specs.declared.directive.Directive.{Directive}
 use Rattle.ath_syntax.specs.Nodes as syntax
-use Rattle.ath_syntax.specs.Tree as tree
-use Rattle.ath_automaton.specs.declared.tree.DirectiveTree.{DirectiveTree}
-use Rattle.ath_automaton.specs.Trees.{directive_of}
-use Rattle.ath_grammar.specs.Tokens.{Placed, at}
-use Rattle.ath_grammar.specs.Machine.{Config, Outcome, no, on, over, step, level_of, finished, at_end}
+use Rattle.ath_numbering.specs.declared.tree.DirectiveTree.{DirectiveTree}
+use Rattle.ath_numbering.specs.Trees.{directive_of}
+use Rattle.ath_builder.specs.Values.{held, directive_in}
+use Rattle.ath_grammar.specs.Tokens.{at, class_of_lexeme}
+use Rattle.ath_grammar.specs.Grammar.{grammar}
+use Rattle.ath_grammar.specs.Levels.{depth_of, take_class}
+use Rattle.ath_grammar.specs.Machine.{Outcome, over, took, refused as no_way, advance}
+use Rattle.ath_grammar.specs.Trees.{Value, v1, trees}
 use Rattle.ath_names.specs.Names as table
 use Rattle.ath_tokens.specs.Cut.{place_of}
 use Rattle.ath_tokens.specs.Cutting.{Cutting}
@@ -16,7 +19,8 @@ use Rattle.ath_reader.specs.declared.reader.SyntaxError.{SyntaxError}
 use Rattle.ath_reader.specs.declared.reader.SyntaxKind.{SyntaxKind}
 use Rattle.ath_reader.specs.declared.reader.Taken.{Taken}
 use Rattle.ath_reader.specs.declared.reader.Taken.TheVariants.{On, Whole}
-use Rattle.ath_reader.specs.Automata.{standing_of}
+use Rattle.ath_reader.specs.declared.reader.Begun.{Begun}
+use Rattle.ath_reader.specs.Runs.{left, seen_of}
 use Rattle.ath_reader.specs.declared.reader.SyntaxKind.TheVariants.{Lex, Unexpected, Unclosed, KindMix, TooDeep, Memory}
 use Rattle.ath_reader.specs.Ahead.{Ahead, a_token, the_end, a_fault, ahead, names_past}
 use Rattle.ath_reader.specs.Reading.{Reading, reached, Front, IsWhole, place, Refuses, Finds, Wants}
@@ -24,13 +28,21 @@ use Rattle.ath_reader.specs.Reading.{Reading, reached, Front, IsWhole, place, Re
 abbrev pub next_of : Cutting → List (List ℕ) → Ahead
 next_of c names = ahead c.file c.text names c.at
 
--- why a token isn't taken
-abbrev pub Rejects : Outcome → SyntaxKind → Type 0
-Rejects no Unexpected = Unit {0}
-Rejects (over false d) Unexpected = Unit {0}
-Rejects (on false st) KindMix = Unit {0}
-Rejects (on true st) TooDeep = 500 < level_of st
-Rejects o kind = ⊥
+-- what becomes of what was read by what comes next, as the grammar's machine has it
+abbrev pub outcome : Begun → Seen → Outcome (List Value)
+outcome b seen = advance trees grammar (seen_of seen) (left b.machine) (held b.machine.values)
+
+-- no directive is whole there
+abbrev pub IsNotOver : Outcome (List Value) → Type 0
+IsNotOver o = (us : List Value) → o ≡ over true us → ⊥
+
+-- why a token isn't taken; the number is that of the levels behind it
+abbrev pub Rejects : Outcome (List Value) → ℕ → SyntaxKind → Type 0
+Rejects no_way n Unexpected = Unit {0}
+Rejects (over false us) n Unexpected = Unit {0}
+Rejects (took false is us) n KindMix = Unit {0}
+Rejects (took true is us) n TooDeep = 500 < n
+Rejects o n kind = ⊥
 
 -- what comes next, and the place and the names behind it
 abbrev pub Looks : Cutting → List (List ℕ) → Result Seen SyntaxError → Cutting → List (List ℕ) → Type 0
@@ -39,23 +51,35 @@ Looks old names (Ok End) new names' = (next_of old names ≡ the_end) × (names'
 Looks old names (Ok (Fault e)) new names' = (n : ℕ) × (next_of old names ≡ a_fault e.kind n) × (e.pos ≡ place_of old.file old.text n) × (names' ≡ names) × (new.text ≡ old.text) × (new.file ≡ old.file)
 Looks old names (Err e) new names' = (e.kind ≡ Memory) × table.Grows names names' × (new.text ≡ old.text) × (new.file ≡ old.file)
 
--- a token that is taken, stands behind a whole directive, or is refused
-abbrev pub Takes : Config → Placed → Result Taken SyntaxError → Type 0
-Takes st t (Ok (On a)) = (step st t ≡ on true (standing_of a)) × (level_of (standing_of a) ≤ 500)
-Takes st t (Ok (Whole d)) = step st t ≡ over true (directive_of d)
-Takes st t (Err e) = (e.pos ≡ place t) × ((e.kind ≡ Memory) ⊎ Rejects (step st t) e.kind)
+-- the refusal of what comes next
+abbrev pub Refusal : Cutting → Begun → Seen → SyntaxError → Type 0
+Refusal c b (Token l p) e = (e.pos ≡ p) × Rejects (outcome b (Token l p)) (depth_of (take_class (class_of_lexeme l) b.levels)) e.kind
+Refusal c b End e = (e ≡ record { kind = Unclosed; pos = place_of c.file c.text (length c.text) }) × IsNotOver (outcome b End)
+Refusal c b (Fault x) e = (e ≡ record { kind = Lex x.kind; pos = x.pos }) × IsNotOver (outcome b (Fault x))
 
--- the directive that is whole where the tokens end, or the refusal
-abbrev pub Lasts : Config → SyntaxError → Result Taken SyntaxError → Type 0
-Lasts st refusal (Ok (Whole d)) = at_end st ≡ finished true (directive_of d)
-Lasts st refusal (Ok (On a)) = ⊥
-Lasts st refusal (Err e) = (e.kind ≡ Memory) ⊎ ((e ≡ refusal) × ((d : tree.DirectiveTree) → at_end st ≡ finished true d → ⊥))
+-- a token is taken, with no more than 500 levels
+abbrev pub TakesOn : Begun → Seen → Begun → Type 0
+TakesOn b (Token l p) new = (outcome b (Token l p) ≡ took true (left new.machine) (held new.machine.values)) × (new.levels ≡ take_class (class_of_lexeme l) b.levels) × (depth_of new.levels ≤ 500)
+TakesOn b seen new = ⊥
 
--- what becomes of the state by what comes next
-abbrev pub Turns : Cutting → Config → Seen → Result Taken SyntaxError → Type 0
-Turns c st (Token l p) result = Takes st (at p l) result
-Turns c st End result = Lasts st (record { kind = Unclosed; pos = place_of c.file c.text (length c.text) }) result
-Turns c st (Fault e) result = Lasts st (record { kind = Lex e.kind; pos = e.pos }) result
+-- a refusal, with the kind that it has at a token
+abbrev pub refusal_of : Cutting → Seen → SyntaxKind → SyntaxError
+refusal_of c (Token l p) kind = record { kind = kind; pos = p }
+refusal_of c End kind = record { kind = Unclosed; pos = place_of c.file c.text (length c.text) }
+refusal_of c (Fault x) kind = record { kind = Lex x.kind; pos = x.pos }
+
+-- the levels behind what comes next, where it is taken
+abbrev pub Deepens : Cutting → Begun → Seen → Result Taken SyntaxError → Type 0
+Deepens c b (Token l p) (Ok (On new)) = (new ≡ record b { levels = take_class (class_of_lexeme l) b.levels }) × (depth_of new.levels ≤ 500)
+Deepens c b (Token l p) (Err e) = (e.kind ≡ Memory) ⊎ ((e ≡ record { kind = TooDeep; pos = p }) × (500 < depth_of (take_class (class_of_lexeme l) b.levels)))
+Deepens c b seen (Err e) = (e.kind ≡ Memory) ⊎ (e ≡ refusal_of c seen Unexpected)
+Deepens c b seen o = ⊥
+
+-- what becomes of what was read: more is; a directive is whole; or what comes next is refused
+abbrev pub Turns : Cutting → Begun → Seen → Result Taken SyntaxError → Type 0
+Turns c b seen (Ok (On new)) = TakesOn b seen new
+Turns c b seen (Ok (Whole d)) = (us : List Value) × (outcome b seen ≡ over true us) × (directive_of d ≡ directive_in (v1 us))
+Turns c b seen (Err e) = (e.kind ≡ Memory) ⊎ Refusal c b seen e
 
 abbrev pub is_end : Seen → Bool
 is_end End = true

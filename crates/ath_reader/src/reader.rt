@@ -1,21 +1,20 @@
 // Directives one after another.
 
-ghost use Rattle.std.specs.Prelude.{◌≡◌, ◌≤◌, None, length};
-ghost use Rattle.ath_grammar.specs.Machine.{level_of, at_end};
-ghost use Rattle.ath_grammar.specs.Tokens.{at};
+ghost use Rattle.std.specs.Prelude.{◌≡◌, ◌≤◌, [], None, length, IfOk, IfErr};
+ghost use Rattle.ath_grammar.specs.Directives.{directive_items};
 ghost use Rattle.ath_names.specs.Names.{Grows as NamesGrow, first_names};
 ghost use Rattle.ath_syntax.specs.Nodes.{Grows};
-ghost use Rattle.ath_reader.specs.Automata.{standing_of};
 ghost use Rattle.ath_reader.specs.Reading.{Answers, reached};
-ghost use Rattle.ath_reader.specs.Steps.{Looks, Takes, Lasts, Turns, ReadsTree, NumbersTree, is_end};
+ghost use Rattle.ath_reader.specs.Runs.{left};
+ghost use Rattle.ath_builder.specs.Values.{held};
+ghost use Rattle.ath_reader.specs.Steps.{Looks, refusal_of, Deepens, Turns, ReadsTree, NumbersTree, is_end};
 
-use crate::automaton::{Automaton, Reply};
+use crate::machine::{Machine, Step};
 use crate::operators::OpTable;
-use ath_automaton::DirectiveTree;
-use ath_grammar::Lexeme;
+use ath_grammar::{Levels, Lexeme};
 use ath_lexemes::lexeme;
 use ath_names::Names;
-use ath_numbering::number_directive;
+use ath_numbering::{DirectiveTree, number_directive};
 use ath_syntax::{Directive, Phrases, Pos};
 use ath_tokens::{LexError, LexKind, Tokens};
 use std::alloc::Global;
@@ -23,7 +22,7 @@ use std::marker::Model;
 use thiserror::Error;
 
 /// The most levels that are open at a time.
-const MAX_LEVEL: u64 = 500;
+const MAX_LEVEL: usize = 500;
 
 /// Why a text goes on with no directive.
 #[derive(Clone, Copy, Debug, PartialEq, Eq)]
@@ -145,74 +144,101 @@ fn look(alloc: Global, tokens: &mut Tokens, names: &mut Names) -> Result<Seen, S
     }
 }
 
-/// A token that is taken, or stands behind a whole directive.
+/// What was read of a directive, and the levels that are open.
+#[derive(Drop)]
+pub(crate) struct Begun {
+    pub(crate) machine: Machine,
+    pub(crate) levels: Levels,
+}
+
+/// What comes next is taken, or stands behind a whole directive.
 #[derive(Drop)]
 pub(crate) enum Taken {
-    On(Automaton),
+    On(Begun),
     Whole(DirectiveTree),
 }
 
-fn take(alloc: Global, automaton: Automaton, pos: Pos, token: &Lexeme) -> Result<Taken, SyntaxError>
-    requires { level_of (standing_of automaton) ≤ 500 }
-    ensures { Takes (standing_of automaton) (at pos token.now) result }
+fn begin(alloc: Global, tokens: &Tokens) -> Result<Begun, SyntaxError>
+    ensures items { IfOk result (λ b. left b.machine ≡ directive_items) }
+    ensures values { IfOk result (λ b. held b.machine.values ≡ []) }
+    ensures levels { IfOk result (λ b. b.levels ≡ []) }
+    ensures memory { IfErr result (λ e. e.kind ≡ SyntaxKind.Memory) }
 {
-    let kind = match automaton.step(alloc, pos, token) {
-        Err(_) => SyntaxKind::Memory,
-        Ok(Reply::Over(true, tree)) => return Ok(Taken::Whole(tree)),
-        Ok(Reply::Over(false, _)) => SyntaxKind::Unexpected,
-        Ok(Reply::No) => SyntaxKind::Unexpected,
-        Ok(Reply::On(false, _)) => SyntaxKind::KindMix,
-        Ok(Reply::On(true, next)) => {
-            if next.level() <= MAX_LEVEL {
-                return Ok(Taken::On(next));
-            }
-            SyntaxKind::TooDeep
-        }
-    };
-    Err(SyntaxError { kind, pos })
-}
-
-/// The directive that is whole where the tokens end, or this refusal.
-fn last(alloc: Global, automaton: Automaton, refusal: SyntaxError) -> Result<Taken, SyntaxError>
-    ensures { Lasts (standing_of automaton) refusal result }
-{
-    match automaton.end(alloc) {
-        Err(_) => Err(SyntaxError {
-            kind: SyntaxKind::Memory,
-            pos: refusal.pos,
+    match Machine::new(alloc) {
+        Ok(machine) => Ok(Begun {
+            machine,
+            levels: Levels::new(alloc),
         }),
-        Ok(Some((true, tree))) => Ok(Taken::Whole(tree)),
-        Ok(Some((false, _))) => Err(refusal),
-        Ok(None) => Err(refusal),
+        Err(_) => Err(wants_memory(tokens)),
     }
 }
 
-/// What becomes of what was read by what comes next.
-fn turn(
-    alloc: Global,
-    tokens: &Tokens,
-    automaton: Automaton,
-    seen: Seen,
-) -> Result<Taken, SyntaxError>
-    requires { level_of (standing_of automaton) ≤ 500 }
-    ensures { Turns tokens.now (standing_of automaton) seen result }
+/// The refusal of what comes next, where it isn't taken.
+fn refusal(tokens: &Tokens, seen: &Seen, kind: SyntaxKind) -> SyntaxError
+    ensures { result ≡ refusal_of tokens.now seen.now kind }
 {
     match seen {
-        Seen::Token(lexeme, pos) => take(alloc, automaton, pos, &lexeme),
-        Seen::End => {
-            let refusal = SyntaxError {
-                kind: SyntaxKind::Unclosed,
-                pos: tokens.end(),
-            };
-            last(alloc, automaton, refusal)
+        Seen::Token(_, pos) => SyntaxError { kind, pos: *pos },
+        Seen::End => SyntaxError {
+            kind: SyntaxKind::Unclosed,
+            pos: tokens.end(),
+        },
+        Seen::Fault(error) => SyntaxError {
+            kind: SyntaxKind::Lex(error.kind),
+            pos: error.pos,
+        },
+    }
+}
+
+/// The levels behind a token that is taken.
+fn deepen(tokens: &Tokens, begun: Begun, seen: &Seen) -> Result<Taken, SyntaxError>
+    ensures { Deepens tokens.now begun seen.now result }
+{
+    let Begun {
+        machine,
+        mut levels,
+    } = begun;
+    let Seen::Token(token, pos) = seen else {
+        return Err(refusal(tokens, seen, SyntaxKind::Unexpected));
+    };
+    if levels.take(token.class()).is_err() {
+        return Err(wants_memory(tokens));
+    }
+    if MAX_LEVEL < levels.depth() {
+        return Err(SyntaxError {
+            kind: SyntaxKind::TooDeep,
+            pos: *pos,
+        });
+    }
+    Ok(Taken::On(Begun { machine, levels }))
+}
+
+/// What becomes of what was read by what comes next.
+#[tactic(auto, using(crate::proofs::Steps::turns_whole, crate::proofs::Steps::turns_over, crate::proofs::Steps::turns_mixed, crate::proofs::Steps::turns_refused, crate::proofs::Steps::turns_deep))]
+fn turn(alloc: Global, tokens: &Tokens, begun: Begun, seen: &Seen) -> Result<Taken, SyntaxError>
+    ensures { Turns tokens.now begun seen.now result }
+{
+    let Begun {
+        mut machine,
+        levels,
+    } = begun;
+    let Ok(step) = machine.step(alloc, seen) else {
+        return Err(wants_memory(tokens));
+    };
+    match step {
+        Step::Over(fits) => {
+            if fits {
+                return Ok(Taken::Whole(machine.values.directive()));
+            }
+            Err(refusal(tokens, seen, SyntaxKind::Unexpected))
         }
-        Seen::Fault(error) => {
-            let refusal = SyntaxError {
-                kind: SyntaxKind::Lex(error.kind),
-                pos: error.pos,
-            };
-            last(alloc, automaton, refusal)
+        Step::Took(fits) => {
+            if fits {
+                return deepen(tokens, Begun { machine, levels }, seen);
+            }
+            Err(refusal(tokens, seen, SyntaxKind::KindMix))
         }
+        Step::Refused => Err(refusal(tokens, seen, SyntaxKind::Unexpected)),
     }
 }
 
@@ -235,7 +261,7 @@ fn read_tree(
     requires { tokens.old.refused ≡ None }
     ensures { ReadsTree tokens.old names.old result tokens.new names.new }
 {
-    let mut automaton = Automaton::new(alloc);
+    let mut state = begin(alloc, tokens)?;
     let mut begun = false;
     loop {
         let mark = tokens.mark();
@@ -243,8 +269,8 @@ fn read_tree(
         if !begun && is_end(&seen) {
             return Ok(None);
         }
-        match turn(alloc, tokens, automaton, seen)? {
-            Taken::On(next) => automaton = next,
+        match turn(alloc, tokens, state, &seen)? {
+            Taken::On(next) => state = next,
             Taken::Whole(tree) => {
                 tokens.back_to(mark);
                 return Ok(Some(tree));

@@ -118,7 +118,7 @@ fn show_next(
 }
 
 // The directives of a text, and the refusal or the end.
-fn listing(alloc: Global, text: &[u8]) -> Result<String, Fail> {
+pub(crate) fn listing(alloc: Global, text: &[u8]) -> Result<String, Fail> {
     let mut lines = String::new(alloc);
     if text.len() > 4_194_304 {
         return Ok(lines);

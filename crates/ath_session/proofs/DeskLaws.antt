@@ -25,7 +25,9 @@ use Rattle.ath_session.specs.declared.status.Status.{Status}
 use Rattle.ath_session.specs.declared.status.Status.TheVariants.{Clean, Errors, Usage, Fuel, SourceFault, SinkFault, Memory}
 use Rattle.ath_session.specs.declared.desk.Flow.{Flow}
 use Rattle.ath_session.specs.declared.desk.Flow.TheVariants.{On, End}
-use Rattle.ath_session.specs.Run.{Item, asks, tells, Configuration, Move, goes, halts, items_of, Halt, out_of_fuel, said, reading_of, most_asked, most_bytes, fetched, asking}
+use Rattle.ath_session.specs.declared.limits.TheConstants.{MOST_ASKED, MOST_BYTES}
+use Rattle.ath_session.specs.Said.{line_said}
+use Rattle.ath_session.specs.Run.{Item, asks, tells, Configuration, Move, goes, halts, items_of, Halt, out_of_fuel, said, reading_of, fetched, asking}
 use Rattle.ath_session.specs.Report.{names_in, lines_in, is_error, has_error}
 use Rattle.ath_session.specs.Ends.{Outside, after_items, after_part}
 use Rattle.ath_session.specs.Steps.{Ended, Did, IsOpened}
@@ -47,10 +49,10 @@ names_more [] ys = refl
 names_more (asks name ∷ xs) ys = ap (λ (names : List (List ℕ)). name ∷ names) (names_more xs ys)
 names_more (tells s ∷ xs) ys = names_more xs ys
 
-lines_more : (xs ys : List Item) → lines_in (xs ++ ys) ≡ lines_in xs ++ lines_in ys
+pub lines_more : (xs ys : List Item) → lines_in (xs ++ ys) ≡ lines_in xs ++ lines_in ys
 lines_more [] ys = refl
 lines_more (asks name ∷ xs) ys = lines_more xs ys
-lines_more (tells s ∷ xs) ys = ap (λ (lines : List (List ℕ)). s.line ∷ lines) (lines_more xs ys)
+lines_more (tells s ∷ xs) ys = ap (λ (lines : List (List ℕ)). line_said s ∷ lines) (lines_more xs ys)
 
 errors_more : (b : Bool) (xs ys : List Item) → ((b || has_error xs) || has_error ys) ≡ (b || has_error (xs ++ ys))
 errors_more true xs ys = refl
@@ -92,7 +94,7 @@ module _ (xs ys : List Item) (d : Configuration) (before middle after : Bool) (c
   ended Fuel other (items, (same, all)) = absurd (cc)
   ended SourceFault other h = absurd (other refl)
   ended SinkFault other (front, more, s, count, (same, all)) =
-      (xs ++ front, more, s, count, (split front (tells s ∷ more) same, all ∙ ap (λ (w : Outside). after_part w front (take count s.line)) done ∙ part_more o xs front (take count s.line)))
+      (xs ++ front, more, s, count, (split front (tells s ∷ more) same, all ∙ ap (λ (w : Outside). after_part w front (take count (line_said s))) done ∙ part_more o xs front (take count (line_said s))))
   ended Memory other (front, more, (same, all)) =
       (xs ++ front, more, (split front more same, all ∙ ap (λ (w : Outside). after_items w front) done ∙ items_more o xs front))
   ended Usage other h = h
@@ -132,7 +134,7 @@ module _ (c : Configuration) (e : events.Event) (told : Option Texts) (sink sink
   line_failed before count put = (
     [],
     [],
-    record { event = e; line = line_of c.state.names c.state.signature c.files e; declared = c.state.signature },
+    record { event = e; names = c.state.names; signature = c.state.signature; files = c.files },
     count,
     (refl, ap (λ (k : Option Held). record { shelf = told; sink = k }) (put ∙ ap (λ (bs : List ℕ). with_put sink (take count bs)) is) ∙ ap (λ (t : Option Texts). record { shelf = t; sink = with_put sink (take count (line_of c.state.names c.state.signature c.files e)) }) (sym (asked_none told))),
   )
@@ -156,10 +158,10 @@ module _ (texts : List (List ℕ × List ℕ)) (c : Configuration) (at : Pos) (n
 
   fetched_asks : (found : Option (List ℕ)) → (more : List Item) × (items_of (fetched c at name found) ≡ asks name ∷ more)
   fetched_asks None = ([], refl)
-  fetched_asks (Some text) = opened_asks text (nat_lt most_bytes (length text))
+  fetched_asks (Some text) = opened_asks text (nat_lt MOST_BYTES (length text))
 
   pub asking_asks : (more : List Item) × (items_of (asking texts c at name) ≡ asks name ∷ more)
-  asking_asks = fetched_asks (front_of texts name most_asked)
+  asking_asks = fetched_asks (front_of texts name MOST_ASKED)
 
   pub source_failed : (before : Bool) (told told' : Option Texts) (sink : Option Held) → told' ≡ with_asked told (name ∷ []) → Ended (asking texts c at name) SourceFault before (record { shelf = told; sink = sink }) (record { shelf = told'; sink = sink })
   source_failed before told told' sink e = (name, asking_asks.0, (asking_asks.1, ap (λ (t : Option Texts). record { shelf = t; sink = sink }) e))
@@ -167,15 +169,15 @@ module _ (texts : List (List ℕ × List ℕ)) (c : Configuration) (at : Pos) (n
   pub not_opened : (before : Bool) (told told' : Option Texts) (sink : Option Held) → told' ≡ with_asked told (name ∷ []) → Ended (asking texts c at name) Memory before (record { shelf = told; sink = sink }) (record { shelf = told'; sink = sink })
   not_opened before told told' sink e = (asks name ∷ [], asking_asks.0, (asking_asks.1, ap (λ (t : Option Texts). record { shelf = t; sink = sink }) e))
 
-  module _ (text : List ℕ) (found : front_of texts name most_asked ≡ Some text) (d : Configuration) where
+  module _ (text : List ℕ) (found : front_of texts name MOST_ASKED ≡ Some text) (d : Configuration) where
     short : IsOpened c name text true d → asking texts c at name ≡ goes (asks name ∷ []) d
     short (fits, is) =
-        let e : nat_lt most_bytes (length text) ≡ false = grind (arith, nat_tests) in
+        let e : nat_lt MOST_BYTES (length text) ≡ false = grind (arith, nat_tests) in
         ap (fetched c at name) found ∙ rw e (rw is refl)
 
     long : IsOpened c name text false d → asking texts c at name ≡ goes (asks name ∷ said d (events.refused at (refusal FileTooLong [])) ∷ []) d
     long (over, is) =
-        let e : nat_lt most_bytes (length text) ≡ true = grind (arith, nat_tests) in
+        let e : nat_lt MOST_BYTES (length text) ≡ true = grind (arith, nat_tests) in
         ap (fetched c at name) found ∙ rw e (rw is refl)
 
     module _ (before after : Bool) (told told' : Option Texts) (sink sink' : Option Held) (asked : told' ≡ with_asked told (name ∷ [])) where

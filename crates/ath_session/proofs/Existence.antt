@@ -16,7 +16,8 @@ use Rattle.ath_eval.specs.Outcomes.{refusal}
 use Rattle.ath_session.specs.declared.status.Status.TheVariants.{Usage}
 use Rattle.ath_session.specs.State.{with_names}
 use Rattle.ath_session.specs.Directives.{Next, goes_on, loads, ends, effect}
-use Rattle.ath_session.specs.Run.{Item, asks, said, Configuration, Halt, Move, goes, halts, reading_of, most_bytes, most_asked, most_loads, opened, fetched, asking, beginning_of, next_file, following, place_of, turned, Turns, Moves, Runs, at_start, one_more}
+use Rattle.ath_session.specs.declared.limits.TheConstants.{MOST_BYTES, MOST_ASKED, MOST_LOADS}
+use Rattle.ath_session.specs.Run.{Item, asks, said, Configuration, Halt, Move, goes, halts, reading_of, opened, fetched, asking, beginning_of, next_file, following, place_of, turned, Turns, Moves, Runs, at_start, one_more}
 use Rattle.ath_session.specs.Report.{Report, status_of, start, IsLogOf, IsReportOf}
 use Rattle.ath_session.specs.Steps.{IsGoing, AreGoing, Opens, weight}
 use Rattle.ath_session.specs.Laws.{SomeReport}
@@ -37,20 +38,20 @@ some_move texts c = some_turn texts c c.stack
 
 -- ---- what a step opens
 opened_as : (c d : Configuration) (at : Pos) (name text : List ℕ) (items : List Item) → opened c at name text ≡ goes items d → Opens c d
-opened_as c d at name text items e = by (nat_lt most_bytes (length text)) refl e
+opened_as c d at name text items e = by (nat_lt MOST_BYTES (length text)) refl e
   where
     named : Configuration
     named = record c { files = c.files ++ name ∷ [] }
 
-    by : (b : Bool) → nat_lt most_bytes (length text) ≡ b → (if b then goes (asks name ∷ said (record c { files = c.files ++ name ∷ [] }) (refused at (refusal FileTooLong [])) ∷ []) (record c { files = c.files ++ name ∷ [] }) else goes (asks name ∷ []) (record c { files = c.files ++ name ∷ []; stack = reading_of (length c.files) text ∷ c.stack })) ≡ goes items d → Opens c d
+    by : (b : Bool) → nat_lt MOST_BYTES (length text) ≡ b → (if b then goes (asks name ∷ said (record c { files = c.files ++ name ∷ [] }) (refused at (refusal FileTooLong [])) ∷ []) (record c { files = c.files ++ name ∷ [] }) else goes (asks name ∷ []) (record c { files = c.files ++ name ∷ []; stack = reading_of (length c.files) text ∷ c.stack })) ≡ goes items d → Opens c d
     by true t f = let same : record c { files = c.files ++ name ∷ [] } ≡ d = cc in (sym (ap (λ (k : Configuration). k.waiting) same), inl (sym (ap (λ (k : Configuration). k.stack) same)))
     by false t f =
         let same : record c { files = c.files ++ name ∷ []; stack = reading_of (length c.files) text ∷ c.stack } ≡ d = cc in
-        let fits : length text ≤ most_bytes = grind (arith, nat_tests, t) in
+        let fits : length text ≤ MOST_BYTES = grind (arith, nat_tests, t) in
         (sym (ap (λ (k : Configuration). k.waiting) same), inr (length c.files, text, (fits, sym (ap (λ (k : Configuration). k.stack) same))))
 
 asked_opens : (texts : Texts) (c d : Configuration) (at : Pos) (name : List ℕ) (items : List Item) → asking texts c at name ≡ goes items d → Opens c d
-asked_opens texts c d at name items e = by (front_of texts name most_asked) e
+asked_opens texts c d at name items e = by (front_of texts name MOST_ASKED) e
   where
     by : (text : Option (List ℕ)) → fetched c at name text ≡ goes items d → Opens c d
     by None f = absurd (cc)
@@ -70,9 +71,9 @@ same_opens_in outer c d e = record { opens = same_opens c d e; few = inl (sym (a
 followed_opens : (texts : Texts) (c d : Configuration) (outer : ℕ) (at : Pos) (es : List Event) (next : Next) (items : List Item) → following texts c outer at es next ≡ goes items d → OpensIn outer c d
 followed_opens texts c d outer at es goes_on items e = let same : c ≡ d = cc in same_opens_in outer c d same
 followed_opens texts c d outer at es ends items e = absurd (cc)
-followed_opens texts c d outer at es (loads name) items e = by (nat_lt outer most_loads) refl e
+followed_opens texts c d outer at es (loads name) items e = by (nat_lt outer MOST_LOADS) refl e
   where
-    by : (b : Bool) → nat_lt outer most_loads ≡ b → (if b then asking texts c at name else goes (said c (refused at (refusal TooManyLoads [])) ∷ []) c) ≡ goes items d → OpensIn outer c d
+    by : (b : Bool) → nat_lt outer MOST_LOADS ≡ b → (if b then asking texts c at name else goes (said c (refused at (refusal TooManyLoads [])) ∷ []) c) ≡ goes items d → OpensIn outer c d
     by true t f = record { opens = asked_opens texts c d at name items f; few = inr (grind (arith, nat_tests, t)) }
     by false t f = let same : c ≡ d = cc in same_opens_in outer c d same
 

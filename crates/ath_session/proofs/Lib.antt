@@ -19,3 +19,4 @@ mod DeclareLaws
 mod Differ
 mod NewLaws
 mod FuelLaws
+mod BelievedLaws

@@ -7,7 +7,8 @@ use Rattle.ath_print.specs.Events.{Event, refused}
 use Rattle.ath_print.specs.declared.fault.FaultKind.TheVariants.{TooManyLoads}
 use Rattle.ath_eval.specs.Outcomes.{refusal}
 use Rattle.ath_session.specs.Directives.{Next, goes_on, loads, ends, Effect}
-use Rattle.ath_session.specs.Run.{Configuration, goes, halts, out_of_fuel, said, tell_all, asking, next_file, following, most_loads}
+use Rattle.ath_session.specs.declared.limits.TheConstants.{MOST_LOADS}
+use Rattle.ath_session.specs.Run.{Configuration, goes, halts, out_of_fuel, said, tell_all, asking, next_file, following}
 
 pub next_waiting : {X : Type 0} (f : X → List ℕ) (xs : List X) (n : ℕ) (x : X) → n < length xs → get_or xs n x ≡ x → drop n (map f xs) ≡ f x ∷ drop (n + 1) (map f xs)
 next_waiting f xs n x h is =
@@ -32,10 +33,10 @@ module _ (texts : List (List ℕ × List ℕ)) (c d : Configuration) (outer : �
 
   pub loads_is : (name : List ℕ) → loads name ≡ e.next → outer < 16 → following texts (record c { state = e.state }) outer at e.events e.next ≡ asking texts d at name
   loads_is name is few =
-      let test : nat_lt outer most_loads ≡ true = grind (arith, nat_tests) in
+      let test : nat_lt outer MOST_LOADS ≡ true = grind (arith, nat_tests) in
       there (loads name) is ∙ rw test refl
 
   pub no_load_is : (name : List ℕ) → loads name ≡ e.next → 16 ≤ outer → following texts (record c { state = e.state }) outer at e.events e.next ≡ goes (said d (refused at (refusal TooManyLoads [])) ∷ []) d
   no_load_is name is many =
-      let test : nat_lt outer most_loads ≡ false = grind (arith, nat_tests) in
+      let test : nat_lt outer MOST_LOADS ≡ false = grind (arith, nat_tests) in
       there (loads name) is ∙ rw test refl

@@ -15,23 +15,23 @@ use Rattle.ath_sorts.specs.Signature.{Signature, symbol_of}
 use Rattle.ath_sorts.specs.Sorts.{same_svar}
 use Rattle.ath_sorts.proofs.SortLaws.{sort_induction}
 use Rattle.ath_syntax.specs.declared.place.Pos.{Pos}
-use Rattle.ath_terms.specs.declared.node.Var.{Var as Variable}
-use Rattle.ath_terms.specs.declared.node.Conn.{Conn}
-use Rattle.ath_terms.specs.declared.node.Conn.TheVariants.{Not, And, Or, If, Iff}
-use Rattle.ath_terms.specs.declared.node.Quant.{Quant}
-use Rattle.ath_terms.specs.declared.node.Quant.TheVariants.{Forall, Exists}
-use Rattle.ath_terms.specs.SortsIn.{result_sort}
-use Rattle.ath_terms.specs.Tree.{Term, Terms, var, app, none, more, Sent, atom, equal, negated, joined, bound}
-use Rattle.ath_terms.specs.Variables.{same_var}
+use Rattle.ath_trees.specs.declared.node.Var.{Var as Variable}
+use Rattle.ath_trees.specs.declared.node.Conn.{Conn}
+use Rattle.ath_trees.specs.declared.node.Conn.TheVariants.{Not, And, Or, If, Iff}
+use Rattle.ath_trees.specs.declared.node.Quant.{Quant}
+use Rattle.ath_trees.specs.declared.node.Quant.TheVariants.{Forall, Exists}
+use Rattle.ath_trees.specs.SortsIn.{result_sort}
+use Rattle.ath_trees.specs.Tree.{Term, Terms, var, app, none, more, Sent, atom, equal, negated, joined, bound, conn_of}
+use Rattle.ath_trees.specs.Variables.{same_var}
 use Rattle.ath_env.specs.Values.{Value, a_term, a_sentence, a_symbol, a_connective, a_quantifier, a_back, a_method}
 use Rattle.ath_env.specs.LookUp.{text_of}
 use Rattle.ath_print.specs.declared.fault.FaultKind.{FaultKind}
 use Rattle.ath_print.specs.declared.fault.FaultKind.TheVariants.{BadUtf8, BadChar, OpenString, NameTooLong, Unexpected, Unclosed, KindMix, TooDeep, NotBuilt, Redeclared, UnknownSort, Arity, LooseParam, TooWide, SortTooLarge, Unbound, FileTooLong, TooManyLoads, SortClash, ArgCount, NotBoolean, TooLarge, TooNested, WrongKind, WrongShape, NotInBase, NotApplicable, NotMethod, NotSentence}
-use Rattle.ath_print.specs.Events.{Argument, sentence_named, term_named, sort_named, variable_named, name_named, number_named, Refusal, Event, domain_declared, declared, asserted, proved, shown, refused, exhausted}
+use Rattle.ath_print.specs.Events.{Argument, sentence_named, term_named, sort_named, variable_named, name_named, number_named, Refusal, Event, domain_added, symbols_added, asserted, proved, shown, refused, exhausted, is_theorem}
 use Rattle.ath_print.specs.Printers.{Printer, word, in_turn, spaced, item}
 use Rattle.ath_print.specs.Prefix.{conn_text, quant_text, numbered, svar_printed, sort_step, sort_printed, index_text, var_text, with_sort, occurrence, leaves_unsaid, ascribed, term_printed, terms_printed, sent_printed}
 use Rattle.ath_print.specs.Lines.{listed_after, listed, hex_digit, escaped, quoted, method_text, kind_text, argument_printed, refusal_text, shown_text, place_text, text_of_event, line_of}
-use Rattle.ath_session.specs.Laws.{has_line_end, is_theorem, IsLine}
+use Rattle.ath_session.specs.Believed.{has_line_end, IsLine}
 
 -- no byte is LF
 pub record Plain (text : List ℕ) : Type 0 where
@@ -257,7 +257,7 @@ module _ (names : List (List ℕ)) (all : ArePlain names) (sig : Signature) wher
   sent-plain binders (atom t) = term-plain binders t
   sent-plain binders (equal s t) = item-plain (codes "=") (term_printed names sig binders s ∷ term_printed names sig binders t ∷ []) (plain (codes "=") refl) (term-plain binders s, (term-plain binders t, tt))
   sent-plain binders (negated p) = item-plain (conn_text Not) (sent_printed names sig binders p ∷ []) (conn-plain Not) (sent-plain binders p, tt)
-  sent-plain binders (joined c p q) = item-plain (conn_text c) (sent_printed names sig binders p ∷ sent_printed names sig binders q ∷ []) (conn-plain c) (sent-plain binders p, (sent-plain binders q, tt))
+  sent-plain binders (joined c p q) = item-plain (conn_text (conn_of c)) (sent_printed names sig binders p ∷ sent_printed names sig binders q ∷ []) (conn-plain (conn_of c)) (sent-plain binders p, (sent-plain binders q, tt))
   sent-plain binders (bound k v p) = item-plain (quant_text k) (with_sort names v ∷ sent_printed names sig (binders ++ v ∷ []) p ∷ []) (quant-plain k) (with-sort-plain names all v, (sent-plain (binders ++ v ∷ []) p, tt))
 
 -- ---- events
@@ -296,8 +296,8 @@ module _ (names : List (List ℕ)) (sig : Signature) (files : List (List ℕ)) (
   shown-plain (a_method n) = plain-append (plain (codes "Method: ") refl) (method-plain n)
 
   event-plain : (e : Event) → Plain (text_of_event names sig files e)
-  event-plain (domain_declared n) = plain-append (plain (codes "Domain: ") refl) (name-plain names all n)
-  event-plain (declared ns) = plain-append (plain (codes "Symbols: ") refl) (listed-plain names all ns)
+  event-plain (domain_added n) = plain-append (plain (codes "Domain: ") refl) (name-plain names all n)
+  event-plain (symbols_added ns) = plain-append (plain (codes "Symbols: ") refl) (listed-plain names all ns)
   event-plain (asserted p) = plain-append (plain (codes "Assertion: ") refl) (sent-plain names all sig [] p [])
   event-plain (proved p) = plain-append (plain (codes "Theorem: ") refl) (sent-plain names all sig [] p [])
   event-plain (shown v) = shown-plain v
@@ -328,15 +328,15 @@ module _ (names : List (List ℕ)) (sig : Signature) (files : List (List ℕ)) w
   shown-headed (a_method n) = ((λ e. absurd (other 77 101 _ refl e)), (λ e. absurd (cc)))
 
   line-headed : (e : Event) → Headed e (line_of names sig files e)
-  line-headed (domain_declared n) = ((λ e. absurd (other 68 111 _ refl e)), (λ e. absurd (cc)))
-  line-headed (declared ns) = ((λ e. absurd (other 83 121 _ refl e)), (λ e. absurd (cc)))
+  line-headed (domain_added n) = ((λ e. absurd (other 68 111 _ refl e)), (λ e. absurd (cc)))
+  line-headed (symbols_added ns) = ((λ e. absurd (other 83 121 _ refl e)), (λ e. absurd (cc)))
   line-headed (asserted p) = ((λ e. absurd (other 65 115 _ refl e)), (λ e. absurd (cc)))
   line-headed (proved p) = ((λ e. refl), (λ e. refl))
   line-headed (shown v) = shown-headed v
   line-headed (refused at why) = ((λ e. absurd (other 69 114 _ refl e)), (λ e. absurd (cc)))
   line-headed (exhausted at) = ((λ e. absurd (other 70 117 _ refl e)), (λ e. absurd (cc)))
 
-pub line_whole : (names : List (List ℕ)) (sig : Signature) (files : List (List ℕ)) → ArePlain names → (e : Event) → IsLine (record { event = e; line = line_of names sig files e; declared = sig })
+pub line_whole : (names : List (List ℕ)) (sig : Signature) (files : List (List ℕ)) → ArePlain names → (e : Event) → IsLine (record { event = e; names = names; signature = sig; files = files })
 line_whole names sig files all e = record {
   text = text_of_event names sig files e;
   ends = refl;

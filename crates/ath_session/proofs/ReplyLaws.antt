@@ -11,7 +11,7 @@ use Rattle.ath_syntax.specs.declared.directive.What.TheVariants.{Domain, Declare
 use Rattle.ath_syntax.specs.declared.directive.Directive.{Directive}
 use Rattle.ath_syntax.specs.Tree.{Phrase, Statement, domain_is, declare_is, assert_is, load_is, phrase_is, DirectiveTree}
 use Rattle.ath_syntax.specs.Stands.{IsPhrase, IsStatement, IsDirective}
-use Rattle.ath_terms.specs.declared.node.SentId.{SentId}
+use Rattle.ath_trees.specs.declared.node.SentId.{SentId}
 use Rattle.ath_terms.specs.Trees.{sent_at}
 use Rattle.ath_env.specs.Values.{value_at, sentence_of}
 use Rattle.ath_env.specs.declared.value.Value as coded
@@ -89,12 +89,12 @@ module _ (w u : World) (what : What) (at : Pos) where
   done_as r x y e h = reply_as u r _ _ (ap (done (state_of w) at) (sym e)) h
 
   module _ {E : Type 0} where
-    pub domain_tells : (a : Result Reply E) (n : Sym) (ms vs : List Sym) → what ≡ Domain n vs → ms ≡ vs → IfOk a (λ r. IsReply u r (declaring (state_of w) at (events.domain_declared n) false (after.domain_declared w.sig n ms))) → IfOk a Tells
-    domain_tells (Ok r) n ms vs e m h = λ x k. done_as r x (domain_is n vs) (domain_here w.phrases what x k n vs e) (subst (λ (ms : List Sym). IsReply u r (declaring (state_of w) at (events.domain_declared n) false (after.domain_declared w.sig n ms))) m h)
+    pub domain_tells : (a : Result Reply E) (n : Sym) (ms vs : List Sym) → what ≡ Domain n vs → ms ≡ vs → IfOk a (λ r. IsReply u r (declaring (state_of w) at (events.domain_added n) false (after.domain_declared w.sig n ms))) → IfOk a Tells
+    domain_tells (Ok r) n ms vs e m h = λ x k. done_as r x (domain_is n vs) (domain_here w.phrases what x k n vs e) (subst (λ (ms : List Sym). IsReply u r (declaring (state_of w) at (events.domain_added n) false (after.domain_declared w.sig n ms))) m h)
     domain_tells (Err k) n ms vs e m h = tt
 
-    pub declare_tells : (a : Result Reply E) (ms ns : List Sym) (ps : Option (List Sym)) (ts os : List SortText) (s : SortText) → what ≡ Declare ns ps os s → ms ≡ ns → ts ≡ os → IfOk a (λ r. IsReply u r (declaring (state_of w) at (events.declared ms) (is_unlisted w.sig ps ts s) (after.declared w.sig ms ps ts s))) → IfOk a Tells
-    declare_tells (Ok r) ms ns ps ts os s e m t h = λ x k. done_as r x (declare_is ns ps os s) (declare_here w.phrases what x k ns ps os s e) (reply_as u r _ _ (λ i. declaring (state_of w) at (events.declared (m i)) (is_unlisted w.sig ps (t i) s) (after.declared w.sig (m i) ps (t i) s)) h)
+    pub declare_tells : (a : Result Reply E) (ms ns : List Sym) (ps : Option (List Sym)) (ts os : List SortText) (s : SortText) → what ≡ Declare ns ps os s → ms ≡ ns → ts ≡ os → IfOk a (λ r. IsReply u r (declaring (state_of w) at (events.symbols_added ms) (is_unlisted w.sig ps ts s) (after.declared w.sig ms ps ts s))) → IfOk a Tells
+    declare_tells (Ok r) ms ns ps ts os s e m t h = λ x k. done_as r x (declare_is ns ps os s) (declare_here w.phrases what x k ns ps os s e) (reply_as u r _ _ (λ i. declaring (state_of w) at (events.symbols_added (m i)) (is_unlisted w.sig ps (t i) s) (after.declared w.sig (m i) ps (t i) s)) h)
     declare_tells (Err k) ms ns ps ts os s e m t h = tt
 
     pub assert_tells : (a : Result Reply E) (n : Option Sym) (closed : Bool) (i : PhraseId) → what ≡ Assert n closed i → IfOk a (λ r. (x : Phrase) → IsPhrase w.phrases i x → IsReply u r (asserting (state_of w) (place x) (outcome_of (context (state_of w)) x w.fuel w.fresh))) → IfOk a Tells

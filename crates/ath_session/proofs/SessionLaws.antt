@@ -6,13 +6,13 @@ use Rattle.std.proofs.lemmas.List.{length-take, take-append-le, take-append-drop
 use Rattle.std.proofs.lemmas.List.Elements.{All-nil, All-cons, All-same}
 use Rattle.ath_names.specs.Names.{Grows}
 use Rattle.ath_syntax.specs.declared.place.Pos.{Pos}
-use Rattle.ath_terms.specs.Tree.{Sent, atom}
+use Rattle.ath_trees.specs.Tree.{Sent, atom}
 use Rattle.ath_terms.specs.Trees as trees
-use Rattle.ath_terms.specs.declared.node.SentId.{SentId}
+use Rattle.ath_trees.specs.declared.node.SentId.{SentId}
 use Rattle.std.specs.Prelude.{IfSome}
 use Rattle.ath_sorts.specs.Signature.{boolean}
 use Rattle.ath_sorts.specs.Unifiers.{same_sort}
-use Rattle.ath_terms.specs.Measure.{IsSmall}
+use Rattle.ath_trees.specs.Measure.{IsSmall}
 use Rattle.ath_env.specs.Values.{Value, a_term, a_sentence, a_symbol, a_connective, a_quantifier, a_back, a_method, value_at, sentence_of, IsSentenceOf}
 use Rattle.ath_env.proofs.ValueLaws.{sentence-some, sentence-none}
 use Rattle.ath_env.specs.declared.value.Value as coded

@@ -16,14 +16,14 @@ use Rattle.ath_declarations.proofs.Keeping.{domain_keeps, symbols_keep, domain_v
 use Rattle.ath_terms.specs.declared.fresh.Fresh.{Fresh}
 use Rattle.ath_syntax.specs.declared.place.Pos.{Pos}
 use Rattle.ath_syntax.specs.Tree.{Phrase, Statement, domain_is, datatype_is, declare_is, define_is, define_fun_is, assert_is, load_is, phrase_is, DirectiveTree, directive_at}
-use Rattle.ath_terms.specs.Tree.{Sent}
-use Rattle.ath_terms.specs.WellSorted.{IsWellSorted}
+use Rattle.ath_trees.specs.Tree.{Sent}
+use Rattle.ath_trees.specs.WellSorted.{IsWellSorted}
 use Rattle.ath_calculus.specs.Derives.{Derives, axiom_of, IsIn}
 use Rattle.ath_calculus.specs.Laws.{Extends}
 use Rattle.ath_calculus.proofs.Grown.{well_sorted}
 use Rattle.ath_env.specs.Values.{Value, sentence_of}
 use Rattle.ath_print.specs.declared.fault.FaultKind.TheVariants.{BadUtf8, FileTooLong, TooManyLoads}
-use Rattle.ath_print.specs.Events.{Refusal, Event, domain_declared, declared, asserted, proved, shown, refused, exhausted, is_refused, is_exhausted}
+use Rattle.ath_print.specs.Events.{Refusal, Event, domain_added, symbols_added, asserted, proved, shown, refused, exhausted, is_refused, is_exhausted}
 use Rattle.ath_print.specs.Events as events
 use Rattle.ath_reader.specs.Reading.{Reading, reached}
 use Rattle.ath_reader.specs.Next as reading
@@ -33,14 +33,19 @@ use Rattle.ath_eval.specs.Laws.{IsSoundBase, ConclusionsFollow, IsSortedValue, V
 use Rattle.ath_eval.specs.Laws.{Moves as NoneRises, FuelNeverRises as NeverRises}
 use Rattle.ath_eval.proofs.Kept.{extends_of}
 use Rattle.ath_eval.proofs.Sound.{base_grown, base_joined, sentence-sorted}
-use Rattle.ath_session.proofs.Differ.{StatementDiffers, TreeDiffers, whole_differs}
+use Rattle.ath_grammar.proofs.TypedTable.{StatementDiffers, DirectiveDiffers}
+use Rattle.ath_session.proofs.Differ.{whole_differs}
 use Rattle.ath_session.specs.State.{State, first_state, context, with_left, with_signature, with_names, joining}
 use Rattle.ath_session.specs.Built.{unbuilt_in}
 use Rattle.ath_session.specs.Directives.{Next, goes_on, loads, ends, Effect, telling, declaring, asserting, asserting_sentence, ending, showing, refusing, loading, done, unless_unbuilt, effect}
-use Rattle.ath_session.specs.Run.{Item, asks, tells, Configuration, Halt, Move, goes, halts, most_bytes, most_asked, most_loads, reading_of, opened, fetched, asking, beginning_of, next_file, tell_all, following, place_of, turned, Turns, Runs, at_start, one_more, said}
-use Rattle.ath_session.specs.Report.{Report, start, IsLogOf, IsReportOf}
-use Rattle.ath_session.specs.Theorems.{asserted_after, IsJustified, AreJustified, TheoremsFollow}
-use Rattle.ath_session.specs.Laws.{EachTheoremFollows, IsSameButLeft, RefusedLeavesState, FuelNeverRises, ExhaustedKeepsState}
+use Rattle.ath_session.specs.Run.{Item, asks, tells, Configuration, Halt, Move, goes, halts, reading_of, opened, fetched, asking, beginning_of, next_file, tell_all, following, place_of, turned, Turns, Runs, at_start, one_more, said}
+use Rattle.ath_session.specs.declared.limits.TheConstants.{MOST_BYTES, MOST_ASKED, MOST_LOADS}
+use Rattle.ath_session.specs.Said.{Said}
+use Rattle.ath_session.specs.Report.{Report, said_in, start, IsLogOf, IsReportOf}
+use Rattle.ath_session.specs.Theorems.{asserted_after, IsJustified, AreJustified}
+use Rattle.ath_session.specs.Believed.{AreBelieved}
+use Rattle.ath_session.proofs.WholeLines.{log_named, log_lines}
+use Rattle.ath_session.specs.Laws.{EachReportIsBelieved, IsSameButLeft, RefusedLeavesState, FuelNeverRises, ExhaustedKeepsState}
 
 abbrev Texts : Type 0
 Texts = List (List ℕ × List ℕ)
@@ -103,11 +108,11 @@ loading-kept st at name = go (is_utf8 name)
     go false = refused-kept st at _
 
 done-kept : (st : State) (at : Pos) (s : Statement) → Kept st (done st at s)
-done-kept st at (declare_is ns params args result) = declaring-kept st at (declared ns) refl refl _ (after.declared st.signature ns params args result)
+done-kept st at (declare_is ns params args result) = declaring-kept st at (symbols_added ns) refl refl _ (after.declared st.signature ns params args result)
 done-kept st at (assert_is n closed x) = asserting-kept st (place x) (outcome_of (context st) x st.fuel st.fresh)
 done-kept st at (load_is name) = loading-kept st at name
 done-kept st at (phrase_is x) = showing-kept st (outcome_of (context st) x st.fuel st.fresh)
-done-kept st at (domain_is n vs) = declaring-kept st at (domain_declared n) refl refl false (after.domain_declared st.signature n vs)
+done-kept st at (domain_is n vs) = declaring-kept st at (domain_added n) refl refl false (after.domain_declared st.signature n vs)
 done-kept st at (datatype_is n vs cs) = refused-kept st at _
 done-kept st at (define_is n x) = refused-kept st at _
 done-kept st at (define_fun_is f xs x) = refused-kept st at _
@@ -161,11 +166,11 @@ loading-moved st at name = go (is_utf8 name)
 
 module _ (never : NeverRises) where
   done-moved : (st : State) (at : Pos) (s : Statement) → Moved st (done st at s).state
-  done-moved st at (declare_is ns params args result) = declaring-moved st at (declared ns) _ (after.declared st.signature ns params args result)
+  done-moved st at (declare_is ns params args result) = declaring-moved st at (symbols_added ns) _ (after.declared st.signature ns params args result)
   done-moved st at (assert_is n closed x) = asserting-moved st (place x) (outcome_of (context st) x st.fuel st.fresh) (never (context st) most_nested x st.fuel st.fresh)
   done-moved st at (load_is name) = loading-moved st at name
   done-moved st at (phrase_is x) = showing-moved st (outcome_of (context st) x st.fuel st.fresh) (never (context st) most_nested x st.fuel st.fresh)
-  done-moved st at (domain_is n vs) = declaring-moved st at (domain_declared n) false (after.domain_declared st.signature n vs)
+  done-moved st at (domain_is n vs) = declaring-moved st at (domain_added n) false (after.domain_declared st.signature n vs)
   done-moved st at (datatype_is n vs cs) = not-moved st
   done-moved st at (define_is n x) = not-moved st
   done-moved st at (define_fun_is f xs x) = not-moved st
@@ -275,11 +280,11 @@ module _ (follow : ConclusionsFollow) (values : ValuesAreSorted) where
   }
 
   done-does : (ps : List Sent) (st : State) → Sound ps st → (at : Pos) (s : Statement) → StatementDiffers s → DoesAll ps (done st at s)
-  done-does ps st sound at (declare_is ns params args result) differ = declare-does ps st sound at (declared ns) (λ sig. tt) refl _ (after.declared st.signature ns params args result) (symbols-grown st.signature ns params args result sound.valid differ)
+  done-does ps st sound at (declare_is ns params args result) differ = declare-does ps st sound at (symbols_added ns) (λ sig. tt) refl _ (after.declared st.signature ns params args result) (symbols-grown st.signature ns params args result sound.valid differ)
   done-does ps st sound at (assert_is n closed x) differ = assert-does ps st sound (place x) (outcome_of (context st) x st.fuel st.fresh) (outcome-follows ps st sound x)
   done-does ps st sound at (load_is name) differ = load-does ps st sound at name
   done-does ps st sound at (phrase_is x) differ = show-does ps st sound (outcome_of (context st) x st.fuel st.fresh) (outcome-follows ps st sound x)
-  done-does ps st sound at (domain_is n vs) differ = declare-does ps st sound at (domain_declared n) (λ sig. tt) refl false (after.domain_declared st.signature n vs) (domain-grown st.signature n vs sound.valid)
+  done-does ps st sound at (domain_is n vs) differ = declare-does ps st sound at (domain_added n) (λ sig. tt) refl false (after.domain_declared st.signature n vs) (domain-grown st.signature n vs sound.valid)
   done-does ps st sound at (datatype_is n vs cs) differ = (tt, sound)
   done-does ps st sound at (define_is n x) differ = (tt, sound)
   done-does ps st sound at (define_fun_is f xs x) differ = (tt, sound)
@@ -288,20 +293,20 @@ module _ (follow : ConclusionsFollow) (values : ValuesAreSorted) where
   unless-does ps st sound at s differ (Some inner) = (tt, sound)
   unless-does ps st sound at s differ None = done-does ps st sound at s differ
 
-  effect-does : (ps : List Sent) (st : State) → Sound ps st → (d : DirectiveTree) → TreeDiffers d → DoesAll ps (effect st d)
+  effect-does : (ps : List Sent) (st : State) → Sound ps st → (d : DirectiveTree) → DirectiveDiffers d → DoesAll ps (effect st d)
   effect-does ps st sound (directive_at at s) differ = unless-does ps st sound at s differ (unbuilt_in st.names at s)
 
 -- ---- one move
 abbrev Goes : List Sent → List Item → State → Type 0
 Goes ps [] st = Sound ps st
 Goes ps (asks name ∷ items) st = Goes ps items st
-Goes ps (tells s ∷ items) st = IsJustified s.declared ps s.event × Goes (asserted_after ps s.event) items st
+Goes ps (tells s ∷ items) st = IsJustified s.signature ps s.event × Goes (asserted_after ps s.event) items st
 
 abbrev GoesOn : List Sent → Move → Type 0
 GoesOn ps (goes items c) = Goes ps items c.state
-GoesOn ps (halts items h) = AreJustified ps items
+GoesOn ps (halts items h) = AreJustified ps (said_in items)
 
-goes-justified : (ps : List Sent) (items : List Item) (st : State) → Goes ps items st → AreJustified ps items
+goes-justified : (ps : List Sent) (items : List Item) (st : State) → Goes ps items st → AreJustified ps (said_in items)
 goes-justified ps [] st g = tt
 goes-justified ps (asks name ∷ items) st g = goes-justified ps items st g
 goes-justified ps (tells s ∷ items) st g = (g.0, goes-justified (asserted_after ps s.event) items st g.1)
@@ -314,7 +319,7 @@ abbrev named : Configuration → List ℕ → Configuration
 named c name = record c { files = c.files ++ name ∷ [] }
 
 opened-goes : (ps : List Sent) (c : Configuration) → Sound ps c.state → (at : Pos) (name text : List ℕ) → GoesOn ps (opened c at name text)
-opened-goes ps c sound at name text = go (nat_lt most_bytes (length text))
+opened-goes ps c sound at name text = go (nat_lt MOST_BYTES (length text))
   where
     go : (b : Bool) → GoesOn ps (if b then goes (asks name ∷ said (named c name) (events.refused at (refusal FileTooLong [])) ∷ []) (named c name) else goes (asks name ∷ []) (record (named c name) { stack = reading_of (length c.files) text ∷ c.stack }))
     go true = (tt, sound)
@@ -325,7 +330,7 @@ fetched-goes ps c sound at name None = tt
 fetched-goes ps c sound at name (Some text) = opened-goes ps c sound at name text
 
 asking-goes : (texts : Texts) (ps : List Sent) (c : Configuration) → Sound ps c.state → (at : Pos) (name : List ℕ) → GoesOn ps (asking texts c at name)
-asking-goes texts ps c sound at name = fetched-goes ps c sound at name (front_of texts name most_asked)
+asking-goes texts ps c sound at name = fetched-goes ps c sound at name (front_of texts name MOST_ASKED)
 
 next-goes : (texts : Texts) (ps : List Sent) (c : Configuration) → Sound ps c.state → (names : List (List ℕ)) → GoesOn ps (next_file texts c names)
 next-goes texts ps c sound [] = tt
@@ -334,7 +339,7 @@ next-goes texts ps c sound (name ∷ names) = asking-goes texts ps (record c { w
 following-goes : (texts : Texts) (ps : List Sent) (c : Configuration) (outer : ℕ) (at : Pos) (es : List Event) (next : Next) → Does ps es c.state next → GoesOn ps (following texts c outer at es next)
 following-goes texts ps c outer at es goes_on d = tells-goes c ps es c.state d
 following-goes texts ps c outer at es ends d = goes-justified ps (tell_all c es) c.state (tells-goes c ps es c.state d)
-following-goes texts ps c outer at es (loads name) d = go (nat_lt outer most_loads)
+following-goes texts ps c outer at es (loads name) d = go (nat_lt outer MOST_LOADS)
   where
     go : (b : Bool) → GoesOn ps (if b then asking texts c at name else goes (said c (events.refused at (refusal TooManyLoads [])) ∷ []) c)
     go true = asking-goes texts ps c d at name
@@ -342,7 +347,7 @@ following-goes texts ps c outer at es (loads name) d = go (nat_lt outer most_loa
 
 -- what is next, where it is a directive, lists parameters that differ
 abbrev NextDiffers : reading.Next → Type 0
-NextDiffers (reading.whole d to known) = TreeDiffers d
+NextDiffers (reading.whole d to known) = DirectiveDiffers d
 NextDiffers reading.ended = Unit {0}
 NextDiffers (reading.stopped e known) = Unit {0}
 
@@ -357,10 +362,13 @@ goes-append ps [] more st last g on = on ps g
 goes-append ps (asks name ∷ items) more st last g on = goes-append ps items more st last g on
 goes-append ps (tells s ∷ items) more st last g on = (g.0, goes-append (asserted_after ps s.event) items more st last g.1 on)
 
-justified-append : (ps : List Sent) (items more : List Item) (st : State) → Goes ps items st → ((all : List Sent) → Sound all st → AreJustified all more) → AreJustified ps (items ++ more)
+justified-append : (ps : List Sent) (items more : List Item) (st : State) → Goes ps items st → ((all : List Sent) → Sound all st → AreJustified all (said_in more)) → AreJustified ps (said_in (items ++ more))
 justified-append ps [] more st g on = on ps g
 justified-append ps (asks name ∷ items) more st g on = justified-append ps items more st g on
 justified-append ps (tells s ∷ items) more st g on = (g.0, justified-append (asserted_after ps s.event) items more st g.1 on)
+
+pub none_said : AreBelieved []
+none_said = record { justified = tt; named = tt; lines = tt }
 
 first-sound : (fuel : ℕ) → Sound [] (first_state fuel)
 first-sound fuel = record { valid = initial_valid; has_boolean = refl; base = λ p i. absurd i }
@@ -382,18 +390,21 @@ module _ (follow : ConclusionsFollow) (values : ValuesAreSorted) where
   run-goes texts run (one_more {done} {c} {d} items runs m) =
       goes-append [] done items c.state d.state (run-goes texts run runs) (λ all sound. turn-goes texts all c sound c.stack (goes items d) m)
 
-  pub justified_front : (texts : Texts) (run : Asked) (done : List Item) (c : Configuration) → Runs texts (start run) done c → AreJustified [] done
+  pub justified_front : (texts : Texts) (run : Asked) (done : List Item) (c : Configuration) → Runs texts (start run) done c → AreJustified [] (said_in done)
   justified_front texts run done c runs = goes-justified [] done c.state (run-goes texts run runs)
 
-  pub justified_log : (texts : Texts) (run : Asked) (log : List Item) (h : Halt) → IsLogOf texts (start run) log h → AreJustified [] log
+  pub justified_log : (texts : Texts) (run : Asked) (log : List Item) (h : Halt) → IsLogOf texts (start run) log h → AreJustified [] (said_in log)
   justified_log texts run log h l =
       let c = l.final in
       let all = justified-append [] l.done l.last c.state (run-goes texts run l.runs) (λ all sound. turn-goes texts all c sound c.stack (halts l.last h) l.over) in
-      subst (AreJustified []) (sym l.all) all
+      subst (λ (items : List Item). AreJustified [] (said_in items)) (sym l.all) all
 
-  report-follows : (texts : Texts) (asked : Option Asked) (r : Report) → IsReportOf texts asked r → TheoremsFollow r
-  report-follows texts None r e = subst TheoremsFollow (sym e) tt
-  report-follows texts (Some run) r i = justified_log texts run r.log i.0 i.1
+  pub believed_log : (texts : Texts) (run : Asked) (log : List Item) (h : Halt) → IsLogOf texts (start run) log h → AreBelieved (said_in log)
+  believed_log texts run log h l = record { justified = justified_log texts run log h l; named = log_named texts run log h l; lines = log_lines texts run log h l }
 
-  pub each_theorem_follows : EachTheoremFollows
-  each_theorem_follows = λ words texts r i. report-follows texts (run_of words) r i
+  report-believed : (texts : Texts) (asked : Option Asked) (r : Report) → IsReportOf texts asked r → AreBelieved (said_in r.log)
+  report-believed texts None r e = subst (λ (s : Report). AreBelieved (said_in s.log)) (sym e) none_said
+  report-believed texts (Some run) r i = believed_log texts run r.log i.0 i.1
+
+  pub each_report_is_believed : EachReportIsBelieved
+  each_report_is_believed = λ words texts r i. report-believed texts (run_of words) r i

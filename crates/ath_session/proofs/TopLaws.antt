@@ -8,9 +8,10 @@ use Rattle.ath_reader.proofs.OneNext.{one_next}
 use Rattle.ath_session.specs.declared.desk.Flow.TheVariants.{On}
 use Rattle.ath_session.specs.declared.status.Status.{Status}
 use Rattle.ath_session.specs.declared.status.Status.TheVariants.{Clean, Errors, Usage, Fuel, SourceFault, SinkFault, Memory}
+use Rattle.ath_session.specs.Said.{line_said}
 use Rattle.ath_session.specs.Run.{Item, asks, tells, Configuration, Halt, all_run, out_of_fuel, Move, halts, items_of, Moves, Runs, at_start, one_more}
 use Rattle.ath_session.specs.Report.{Report, is_error, has_error, status_of, start, IsLogOf, IsReportOf}
-use Rattle.ath_session.specs.Ends.{Outside, after_items, after_part, Performed, IsAnswer, Reports}
+use Rattle.ath_session.specs.Ends.{Outside, after_items, after_part, Performed, IsStatusOf, Reports}
 use Rattle.ath_reader.specs.Reading.{Reading}
 use Rattle.ath_session.specs.declared.desk.Desk.{Desk}
 use Rattle.ath_session.specs.Session.{state_of}
@@ -20,7 +21,7 @@ use Rattle.ath_session.proofs.DeskLaws.{no_items, items_more, part_more}
 use Rattle.ath_session.proofs.Existence.{some_move, run_ends}
 use Rattle.ath_session.proofs.RunLaws.{log_after, one-report-of}
 use Rattle.ath_eval.proofs.Sound.{conclusions-follow, values-sorted}
-use Rattle.ath_session.proofs.Sound.{justified_log}
+use Rattle.ath_session.proofs.Sound.{believed_log, none_said}
 
 module _ (texts : List (List ℕ × List ℕ)) (run : Asked) (o : Outside) where
   -- these steps are done
@@ -42,13 +43,13 @@ module _ (texts : List (List ℕ × List ℕ)) (run : Asked) (o : Outside) where
   }
 
   -- a final move makes the report
-  whole-report : (h : Halt) (status : Status) {c : Configuration} {e : Bool} {now now' : Outside} (items : List Item) → (a : At c e now) → Moves texts c (halts items h) → IsAnswer status (status_of h (a.done ++ items)) → Performed status (a.done ++ items) o now' → Reports texts (Some run) status o now'
+  whole-report : (h : Halt) (status : Status) {c : Configuration} {e : Bool} {now now' : Outside} (items : List Item) → (a : At c e now) → Moves texts c (halts items h) → IsStatusOf status (status_of h (a.done ++ items)) → Performed status (a.done ++ items) o now' → Reports texts (Some run) status o now'
   whole-report h status {c} items a move answer done =
       let log : IsLogOf texts (start run) (a.done ++ items) h = record { done = a.done; last = items; final = c; runs = a.runs; over = move; all = refl } in
       record {
         report = record { log = a.done ++ items; status = status_of h (a.done ++ items) };
         written = (h, log, refl);
-        follows = justified_log conclusions-follow values-sorted texts run (a.done ++ items) h log;
+        believed = believed_log conclusions-follow values-sorted texts run (a.done ++ items) h log;
         answer = answer;
         done = done;
       }
@@ -60,7 +61,7 @@ module _ (texts : List (List ℕ × List ℕ)) (run : Asked) (o : Outside) where
   nothing-more a e = e ∙ (a.is ∙ ap (after_items o) (sym (append-nil a.done)))
 
   -- a part of the next move is done, and with it a part of the report
-  part-reported : (status : Status) → ((written : Status) → IsAnswer status written) → ((m : Move) (done more log : List Item) (errors : Bool) (now now' : Outside) → now ≡ after_items o done → log ≡ done ++ (items_of m ++ more) → Ended m status errors now now' → Performed status log o now')
+  part-reported : (status : Status) → ((written : Status) → IsStatusOf status written) → ((m : Move) (done more log : List Item) (errors : Bool) (now now' : Outside) → now ≡ after_items o done → log ≡ done ++ (items_of m ++ more) → Ended m status errors now now' → Performed status log o now')
       → {c : Configuration} {e : Bool} {now now' : Outside} → At c e now → ((m : Move) → Moves texts c m → Ended m status e now now') → Reports texts (Some run) status o now'
   part-reported status answer performed {c} {e} {now} {now'} a did =
       let l = run_ends texts run in
@@ -68,7 +69,7 @@ module _ (texts : List (List ℕ × List ℕ)) (run : Asked) (o : Outside) where
       record {
         report = record { log = l.log; status = status_of l.halt l.log };
         written = (l.halt, l.is, refl);
-        follows = justified_log conclusions-follow values-sorted texts run l.log l.halt l.is;
+        believed = believed_log conclusions-follow values-sorted texts run l.log l.halt l.is;
         answer = answer (status_of l.halt l.log);
         done = performed after.move a.done after.more l.log e now now' a.is after.all (did after.move after.moves);
       }
@@ -85,7 +86,7 @@ module _ (texts : List (List ℕ × List ℕ)) (run : Asked) (o : Outside) where
     count,
     (
       all ∙ (ap (λ xs. done ++ (xs ++ more)) items ∙ (ap (λ xs. done ++ xs) (append_assoc front (tells s ∷ rest) more) ∙ sym (append_assoc done front (tells s ∷ (rest ++ more))))),
-      after ∙ (ap (λ p. after_part p front (take count s.line)) is ∙ part_more o done front (take count s.line)),
+      after ∙ (ap (λ p. after_part p front (take count (line_said s))) is ∙ part_more o done front (take count (line_said s))),
     ),
   )
 
@@ -125,8 +126,8 @@ pub not-begun : (texts : List (List ℕ × List ℕ)) (run : Asked) (o : Outside
 not-begun texts run o = ends texts run o Memory o (at-first texts run o (start run) refl) (λ m h. ([], items_of m, (refl, sym (no_items o))))
 
 -- words that spell no run have the empty report
-pub none-spelled : (texts : List (List ℕ × List ℕ)) (status : Status) (o : Outside) → IsAnswer status Usage → Performed status [] o o → Reports texts None status o o
-none-spelled texts status o answer done = record { report = record { log = []; status = Usage }; written = refl; follows = tt; answer = answer; done = done }
+pub none-spelled : (texts : List (List ℕ × List ℕ)) (status : Status) (o : Outside) → IsStatusOf status Usage → Performed status [] o o → Reports texts None status o o
+none-spelled texts status o answer done = record { report = record { log = []; status = Usage }; written = refl; believed = none_said; answer = answer; done = done }
 
 -- the words aren't read
 pub none-read : (texts : List (List ℕ × List ℕ)) (asked : Option Asked) (o : Outside) → Reports texts asked Memory o o
@@ -160,7 +161,7 @@ pub still-told : (t : Texts) (told : Option Texts) (names : List (List ℕ)) →
 still-told t told names e = ap (λ x. with_asked x names) e
 
 -- an answer is the status of each report, where it is no fault
-is-answer : (status written : Status) → IsAnswer status written → status ≢ Memory → status ≢ SourceFault → status ≢ SinkFault → written ≡ status
+is-answer : (status written : Status) → IsStatusOf status written → status ≢ Memory → status ≢ SourceFault → status ≢ SinkFault → written ≡ status
 is-answer SourceFault written a f g h = absurd (g refl)
 is-answer SinkFault written a f g h = absurd (h refl)
 is-answer Memory written a f g h = absurd (f refl)

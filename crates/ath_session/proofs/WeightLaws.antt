@@ -4,7 +4,8 @@ use Rattle.std.proofs.lemmas.List.{length-reverse}
 use Rattle.std.proofs.lemmas.List.Elements.{All-cons, All-same}
 use Rattle.std.proofs.Math.Nat.{pow-succ', one-le-pow, mul-le-mul_right, suc-mul}
 use Rattle.ath_reader.specs.Reading.{Reading, reached}
-use Rattle.ath_session.specs.Run.{Configuration, reading_of, most_bytes}
+use Rattle.ath_session.specs.declared.limits.TheConstants.{MOST_BYTES}
+use Rattle.ath_session.specs.Run.{Configuration, reading_of}
 use Rattle.ath_session.specs.Steps.{IsGoing, AreGoing, Opens, whole_text, bytes_left, open_weight, weight}
 
 below_product : (k p q n : ℕ) → 1 ≤ p → n < k → q ≡ k * p → n * p < q
@@ -66,13 +67,13 @@ module _ (c d : Configuration) (r : Reading) (from : ℕ) (at : r.progress ≡ r
     read_falls : d.waiting ≡ c.waiting → d.stack ≡ record r { progress = reached to } ∷ c.stack → weight d < weight (record c { stack = r ∷ c.stack })
     read_falls e f = falls_to (record r { progress = reached to } ∷ c.stack) e f (same_product (1 + (length r.text - to)) (bytes_left r r.progress) (whole_text ^ (17 - length c.stack)) (open_weight c.stack) less_left (some_power (17 - length c.stack)))
 
-    load_falls : (file : ℕ) (text : List ℕ) → length text ≤ most_bytes → d.waiting ≡ c.waiting → d.stack ≡ reading_of file text ∷ record r { progress = reached to } ∷ c.stack → weight d < weight (record c { stack = r ∷ c.stack })
+    load_falls : (file : ℕ) (text : List ℕ) → length text ≤ MOST_BYTES → d.waiting ≡ c.waiting → d.stack ≡ reading_of file text ∷ record r { progress = reached to } ∷ c.stack → weight d < weight (record c { stack = r ∷ c.stack })
     load_falls file text fits e f =
         falls_to (reading_of file text ∷ record r { progress = reached to } ∷ c.stack) e f
         (less_product (1 + (length r.text - to)) (bytes_left r r.progress) (whole_text ^ (17 - length c.stack)) ((1 + (length text - 0)) * whole_text ^ (17 - suc (length c.stack))) (open_weight c.stack) less_left
         (below_power whole_text (17 - suc (length c.stack)) (17 - length c.stack) (1 + (length text - 0)) (omega arith) (omega arith)))
 
-    opened_falls : (mid : Configuration) → mid.waiting ≡ c.waiting → mid.stack ≡ record r { progress = reached to } ∷ c.stack → d.waiting ≡ mid.waiting → ((d.stack ≡ mid.stack) ⊎ ((file : ℕ) × (text : List ℕ) × ((length text ≤ most_bytes) × (d.stack ≡ reading_of file text ∷ mid.stack)))) → weight d < weight (record c { stack = r ∷ c.stack })
+    opened_falls : (mid : Configuration) → mid.waiting ≡ c.waiting → mid.stack ≡ record r { progress = reached to } ∷ c.stack → d.waiting ≡ mid.waiting → ((d.stack ≡ mid.stack) ⊎ ((file : ℕ) × (text : List ℕ) × ((length text ≤ MOST_BYTES) × (d.stack ≡ reading_of file text ∷ mid.stack)))) → weight d < weight (record c { stack = r ∷ c.stack })
     opened_falls mid e f same (inl h) = read_falls (same ∙ e) (h ∙ f)
     opened_falls mid e f same (inr (file, text, (fits, h))) = load_falls file text fits (same ∙ e) (h ∙ ap (λ (rs : List Reading). reading_of file text ∷ rs) f)
 
@@ -97,13 +98,13 @@ module _ (c d : Configuration) (name : List ℕ) (names : List (List ℕ)) (wait
       (subst (λ (w : ℕ). length names * whole_text ^ 18 + open_weight stack < w) (sym now_left)
       (with_none (suc (length names) * whole_text ^ 18) _ (file_counts (length names) (open_weight stack) (whole_text ^ 18) h)))
 
-  one_text : (file : ℕ) (text : List ℕ) → length text ≤ most_bytes → open_weight (reading_of file text ∷ []) < whole_text ^ 18
+  one_text : (file : ℕ) (text : List ℕ) → length text ≤ MOST_BYTES → open_weight (reading_of file text ∷ []) < whole_text ^ 18
   one_text file text fits = with_rest _ _ (below_power whole_text 17 18 (1 + (length text - 0)) (omega arith) refl)
     where
       with_rest : (x y : ℕ) → x < y → x + 0 < y
       with_rest x y h = omega arith
 
-  opened_file : d.waiting ≡ names → (d.stack ≡ c.stack) ⊎ ((file : ℕ) × (text : List ℕ) × ((length text ≤ most_bytes) × (d.stack ≡ reading_of file text ∷ c.stack))) → weight d < weight c
+  opened_file : d.waiting ≡ names → (d.stack ≡ c.stack) ⊎ ((file : ℕ) × (text : List ℕ) × ((length text ≤ MOST_BYTES) × (d.stack ≡ reading_of file text ∷ c.stack))) → weight d < weight c
   opened_file e (inl h) = file_goes [] e (h ∙ empty) (some_power 18)
   opened_file e (inr (file, text, (fits, h))) = file_goes (reading_of file text ∷ []) e (h ∙ ap (λ (rs : List Reading). reading_of file text ∷ rs) empty) (one_text file text fits)
 
@@ -114,7 +115,7 @@ module _ (c d : Configuration) (name : List ℕ) (names : List (List ℕ)) (wait
 goes_from : (file : ℕ) (text : List ℕ) → IsGoing (reading_of file text)
 goes_from file text = (0, (refl, omega arith))
 
-opened_goes : (c d : Configuration) → AreGoing c → (d.stack ≡ c.stack) ⊎ ((file : ℕ) × (text : List ℕ) × ((length text ≤ most_bytes) × (d.stack ≡ reading_of file text ∷ c.stack))) → AreGoing d
+opened_goes : (c d : Configuration) → AreGoing c → (d.stack ≡ c.stack) ⊎ ((file : ℕ) × (text : List ℕ) × ((length text ≤ MOST_BYTES) × (d.stack ≡ reading_of file text ∷ c.stack))) → AreGoing d
 opened_goes c d h (inl e) = All-same IsGoing d.stack c.stack e h
 opened_goes c d h (inr (file, text, (fits, e))) = All-same IsGoing d.stack (reading_of file text ∷ c.stack) e (All-cons IsGoing (reading_of file text) c.stack (goes_from file text) h)
 
@@ -122,7 +123,7 @@ pub opens_going : (c d : Configuration) → Opens c d → AreGoing c → AreGoin
 opens_going c d opens h = opened_goes c d h opens.1
 
 -- at most one text more is open
-opened_length : (c d : Configuration) → (d.stack ≡ c.stack) ⊎ ((file : ℕ) × (text : List ℕ) × ((length text ≤ most_bytes) × (d.stack ≡ reading_of file text ∷ c.stack))) → length d.stack ≤ 1 + length c.stack
+opened_length : (c d : Configuration) → (d.stack ≡ c.stack) ⊎ ((file : ℕ) × (text : List ℕ) × ((length text ≤ MOST_BYTES) × (d.stack ≡ reading_of file text ∷ c.stack))) → length d.stack ≤ 1 + length c.stack
 opened_length c d (inl e) = subst (λ (rs : List Reading). length rs ≤ 1 + length c.stack) (sym e) (omega arith)
 opened_length c d (inr (file, text, (fits, e))) = subst (λ (rs : List Reading). length rs ≤ 1 + length c.stack) (sym e) (omega arith)
 

@@ -1,15 +1,19 @@
--- Each line of a run is whole: no name of a configuration has an LF.
+-- What a run tells may be believed: its tables of names grow, and its lines are lines, since no name has an LF.
 use Rattle.std.proofs.Common.{◌≡◌, ℕ, Bool, true, false, nat_lt, List, [], ◌∷◌, ◌++◌, length, Option, Some, None, Result, Ok, Err, refl, sym, subst, if◌then◌else◌}
 use Rattle.std.specs.List.{AllByRecursion}
 use Rattle.std.specs.Str.{is_utf8}
 use Rattle.ath_io.specs.Shelf.{front_of}
-use Rattle.ath_words.specs.Words.{Asked, run_of}
+use Rattle.std.specs.Str.{bytes_eq}
+use Rattle.std.specs.List.{IsDistinct}
+use Rattle.ath_names.specs.Names.{Grows, first_names}
+use Rattle.ath_names.proofs.NamesLaws.{Grows-refl, Grows-trans}
+use Rattle.ath_words.specs.Words.{Asked}
 use Rattle.ath_sorts.specs.declared.signature.SigError.{SigError}
 use Rattle.ath_sorts.specs.Signature.{Signature}
 use Rattle.ath_declarations.specs.Declarations as after
 use Rattle.ath_syntax.specs.declared.place.Pos.{Pos}
 use Rattle.ath_syntax.specs.Tree.{Statement, domain_is, datatype_is, declare_is, define_is, define_fun_is, assert_is, load_is, phrase_is, DirectiveTree, directive_at}
-use Rattle.ath_terms.specs.Tree.{Sent}
+use Rattle.ath_trees.specs.Tree.{Sent}
 use Rattle.ath_env.specs.Values.{sentence_of}
 use Rattle.ath_print.specs.declared.fault.FaultKind.TheVariants.{BadUtf8, FileTooLong, TooManyLoads}
 use Rattle.ath_print.specs.Events as events
@@ -21,21 +25,42 @@ use Rattle.ath_eval.specs.Evaluation.{outcome_of, place}
 use Rattle.ath_session.specs.State.{State, context, with_left, with_names}
 use Rattle.ath_session.specs.Built.{unbuilt_in}
 use Rattle.ath_session.specs.Directives.{Next, goes_on, loads, ends, Effect, declaring, asserting, asserting_sentence, showing, refusing, loading, done, unless_unbuilt, effect}
-use Rattle.ath_session.specs.Run.{Item, asks, Configuration, Halt, Move, goes, halts, most_bytes, most_asked, most_loads, reading_of, opened, fetched, asking, beginning_of, next_file, tell_all, following, place_of, turned, Turns, Runs, at_start, one_more, said}
-use Rattle.ath_session.specs.Report.{Report, start, IsLogOf, IsReportOf}
-use Rattle.ath_session.specs.Laws.{IsLineItem, EachLineIsWhole}
-use Rattle.ath_session.proofs.PlainLines.{ArePlain, line_whole}
-use Rattle.ath_session.proofs.PlainNames.{past_plain, first_plain}
+use Rattle.ath_session.specs.declared.limits.TheConstants.{MOST_BYTES, MOST_ASKED, MOST_LOADS}
+use Rattle.ath_session.specs.Said.{Said}
+use Rattle.ath_session.specs.Run.{Item, asks, tells, Configuration, Halt, Move, goes, halts, reading_of, opened, fetched, asking, beginning_of, next_file, tell_all, following, place_of, turned, Turns, Runs, at_start, one_more, said}
+use Rattle.ath_session.specs.Report.{Report, said_in, start, IsLogOf}
+use Rattle.ath_session.specs.Believed.{IsLine, AreNamed}
+use Rattle.ath_session.proofs.PlainLines.{line_whole}
+use Rattle.ath_session.proofs.PlainNames.{Comes, past_comes, first_comes}
 
 abbrev Texts : Type 0
 Texts = List (List ℕ × List ℕ)
 
-abbrev AreWhole : List Item → Type 0
-AreWhole items = AllByRecursion IsLineItem items
+-- items told one after the other, from a table of names to another
+abbrev Whole : List (List ℕ) → List Item → List (List ℕ) → Type 0
+Whole names [] last = Grows names last
+Whole names (asks name ∷ items) last = Whole names items last
+Whole names (tells s ∷ items) last = Grows names s.names × IsDistinct bytes_eq s.names × IsLine s × Whole s.names items last
 
-whole_append : (items more : List Item) → AreWhole items → AreWhole more → AreWhole (items ++ more)
-whole_append [] more h k = k
-whole_append (i ∷ items) more h k = (h.0, whole_append items more h.1 k)
+whole_behind : (first names : List (List ℕ)) (items : List Item) (last : List (List ℕ)) → Grows first names → Whole names items last → Whole first items last
+whole_behind first names [] last g h = Grows-trans g h
+whole_behind first names (asks name ∷ items) last g h = whole_behind first names items last g h
+whole_behind first names (tells s ∷ items) last g h = (Grows-trans g h.0, h.1, h.2, h.3)
+
+whole_append : (first : List (List ℕ)) (items more : List Item) (names last : List (List ℕ)) → Whole first items names → Whole names more last → Whole first (items ++ more) last
+whole_append first [] more names last h k = whole_behind first names more last h k
+whole_append first (asks name ∷ items) more names last h k = whole_append first items more names last h k
+whole_append first (tells s ∷ items) more names last h k = (h.0, h.1, h.2, whole_append s.names items more names last h.3 k)
+
+whole_named : (names : List (List ℕ)) (items : List Item) (last : List (List ℕ)) → Whole names items last → AreNamed names (said_in items)
+whole_named names [] last h = tt
+whole_named names (asks name ∷ items) last h = whole_named names items last h
+whole_named names (tells s ∷ items) last h = (h.0, h.1, whole_named s.names items last h.3)
+
+whole_lines : (names : List (List ℕ)) (items : List Item) (last : List (List ℕ)) → Whole names items last → AllByRecursion IsLine (said_in items)
+whole_lines names [] last h = tt
+whole_lines names (asks name ∷ items) last h = whole_lines names items last h
+whole_lines names (tells s ∷ items) last h = (h.2, whole_lines s.names items last h.3)
 
 -- ---- a directive keeps the names
 abbrev HasNames : List (List ℕ) → Effect → Type 0
@@ -69,11 +94,11 @@ loading_names st at name = go (is_utf8 name)
     go false = refl
 
 done_names : (st : State) (at : Pos) (s : Statement) → HasNames st.names (done st at s)
-done_names st at (declare_is ns params args result) = declaring_names st at (events.declared ns) _ (after.declared st.signature ns params args result)
+done_names st at (declare_is ns params args result) = declaring_names st at (events.symbols_added ns) _ (after.declared st.signature ns params args result)
 done_names st at (assert_is n closed x) = asserting_names st (place x) (outcome_of (context st) x st.fuel st.fresh)
 done_names st at (load_is name) = loading_names st at name
 done_names st at (phrase_is x) = showing_names st (outcome_of (context st) x st.fuel st.fresh)
-done_names st at (domain_is n vs) = declaring_names st at (events.domain_declared n) false (after.domain_declared st.signature n vs)
+done_names st at (domain_is n vs) = declaring_names st at (events.domain_added n) false (after.domain_declared st.signature n vs)
 done_names st at (datatype_is n vs cs) = refl
 done_names st at (define_is n x) = refl
 done_names st at (define_fun_is f xs x) = refl
@@ -86,83 +111,99 @@ effect_names : (st : State) (d : DirectiveTree) → HasNames st.names (effect st
 effect_names st (directive_at at s) = unless_names st at s (unbuilt_in st.names at s)
 
 -- ---- one move
-abbrev GoesWhole : Move → Type 0
-GoesWhole (goes items c) = AreWhole items × ArePlain c.state.names
-GoesWhole (halts items h) = AreWhole items
+abbrev GoesWhole : List (List ℕ) → Move → Type 0
+GoesWhole first (goes items c) = Whole first items c.state.names × Comes [] c.state.names
+GoesWhole first (halts items h) = (last : List (List ℕ)) × Whole first items last
 
-said_whole : (c : Configuration) → ArePlain c.state.names → (e : events.Event) → IsLineItem (said c e)
-said_whole c h e = line_whole c.state.names c.state.signature c.files h e
+-- items that are told with the names of a configuration
+module _ (c : Configuration) (k : Comes [] c.state.names) where
+  here : Whole c.state.names [] c.state.names
+  here = Grows-refl c.state.names
 
-told_whole : (c : Configuration) → ArePlain c.state.names → (es : List events.Event) → AreWhole (tell_all c es)
-told_whole c h [] = tt
-told_whole c h (e ∷ es) = (said_whole c h e, told_whole c h es)
+  said_whole : (e : events.Event) (items : List Item) → Whole c.state.names items c.state.names → Whole c.state.names (said c e ∷ items) c.state.names
+  said_whole e items h = (here, k.distinct, line_whole c.state.names c.state.signature c.files k.plain e, h)
+
+  told_whole : (es : List events.Event) → Whole c.state.names (tell_all c es) c.state.names
+  told_whole [] = here
+  told_whole (e ∷ es) = said_whole e (tell_all c es) (told_whole es)
 
 abbrev with_file : Configuration → List ℕ → Configuration
 with_file c name = record c { files = c.files ++ name ∷ [] }
 
-opened_whole : (c : Configuration) → ArePlain c.state.names → (at : Pos) (name text : List ℕ) → GoesWhole (opened c at name text)
-opened_whole c h at name text = go (nat_lt most_bytes (length text))
+opened_whole : (c : Configuration) → Comes [] c.state.names → (at : Pos) (name text : List ℕ) → GoesWhole c.state.names (opened c at name text)
+opened_whole c k at name text = go (nat_lt MOST_BYTES (length text))
   where
-    go : (b : Bool) → GoesWhole (if b then goes (asks name ∷ said (with_file c name) (events.refused at (refusal FileTooLong [])) ∷ []) (with_file c name) else goes (asks name ∷ []) (record (with_file c name) { stack = reading_of (length c.files) text ∷ c.stack }))
-    go true = ((tt, (said_whole (with_file c name) h (events.refused at (refusal FileTooLong [])), tt)), h)
-    go false = ((tt, tt), h)
+    go : (b : Bool) → GoesWhole c.state.names (if b then goes (asks name ∷ said (with_file c name) (events.refused at (refusal FileTooLong [])) ∷ []) (with_file c name) else goes (asks name ∷ []) (record (with_file c name) { stack = reading_of (length c.files) text ∷ c.stack }))
+    go true = (said_whole (with_file c name) k (events.refused at (refusal FileTooLong [])) [] (here c k), k)
+    go false = (here c k, k)
 
-fetched_whole : (c : Configuration) → ArePlain c.state.names → (at : Pos) (name : List ℕ) (found : Option (List ℕ)) → GoesWhole (fetched c at name found)
-fetched_whole c h at name None = (tt, tt)
-fetched_whole c h at name (Some text) = opened_whole c h at name text
+fetched_whole : (c : Configuration) → Comes [] c.state.names → (at : Pos) (name : List ℕ) (found : Option (List ℕ)) → GoesWhole c.state.names (fetched c at name found)
+fetched_whole c k at name None = (c.state.names, here c k)
+fetched_whole c k at name (Some text) = opened_whole c k at name text
 
-asking_whole : (texts : Texts) (c : Configuration) → ArePlain c.state.names → (at : Pos) (name : List ℕ) → GoesWhole (asking texts c at name)
-asking_whole texts c h at name = fetched_whole c h at name (front_of texts name most_asked)
+asking_whole : (texts : Texts) (c : Configuration) → Comes [] c.state.names → (at : Pos) (name : List ℕ) → GoesWhole c.state.names (asking texts c at name)
+asking_whole texts c k at name = fetched_whole c k at name (front_of texts name MOST_ASKED)
 
-file_whole : (texts : Texts) (c : Configuration) → ArePlain c.state.names → (names : List (List ℕ)) → GoesWhole (next_file texts c names)
-file_whole texts c h [] = tt
-file_whole texts c h (name ∷ names) = asking_whole texts (record c { waiting = names }) h (beginning_of (length c.files)) name
+file_whole : (texts : Texts) (c : Configuration) → Comes [] c.state.names → (names : List (List ℕ)) → GoesWhole c.state.names (next_file texts c names)
+file_whole texts c k [] = (c.state.names, here c k)
+file_whole texts c k (name ∷ names) = asking_whole texts (record c { waiting = names }) k (beginning_of (length c.files)) name
 
-following_whole : (texts : Texts) (c : Configuration) → ArePlain c.state.names → (outer : ℕ) (at : Pos) (es : List events.Event) (next : Next) → GoesWhole (following texts c outer at es next)
-following_whole texts c h outer at es goes_on = (told_whole c h es, h)
-following_whole texts c h outer at es ends = told_whole c h es
-following_whole texts c h outer at es (loads name) = go (nat_lt outer most_loads)
+following_whole : (texts : Texts) (c : Configuration) → Comes [] c.state.names → (outer : ℕ) (at : Pos) (es : List events.Event) (next : Next) → GoesWhole c.state.names (following texts c outer at es next)
+following_whole texts c k outer at es goes_on = (told_whole c k es, k)
+following_whole texts c k outer at es ends = (c.state.names, told_whole c k es)
+following_whole texts c k outer at es (loads name) = go (nat_lt outer MOST_LOADS)
   where
-    go : (b : Bool) → GoesWhole (if b then asking texts c at name else goes (said c (events.refused at (refusal TooManyLoads [])) ∷ []) c)
-    go true = asking_whole texts c h at name
-    go false = ((said_whole c h (events.refused at (refusal TooManyLoads [])), tt), h)
+    go : (b : Bool) → GoesWhole c.state.names (if b then asking texts c at name else goes (said c (events.refused at (refusal TooManyLoads [])) ∷ []) c)
+    go true = asking_whole texts c k at name
+    go false = (said_whole c k (events.refused at (refusal TooManyLoads [])) [] (here c k), k)
+
+-- a move from a table that has grown is one from the table before
+move_behind : (first names : List (List ℕ)) → Grows first names → (m : Move) → GoesWhole names m → GoesWhole first m
+move_behind first names g (goes items c) h = (whole_behind first names items c.state.names g h.0, h.1)
+move_behind first names g (halts items halt) h = (h.0, whole_behind first names items h.0 g h.1)
 
 -- the names behind a front of a text, and what was looked at behind it
-front_plain : (r : Reading) (names : List (List ℕ)) (from : ℕ) (f : Front r names from) (after : List (List ℕ)) → ArePlain names → after ≡ names_past f.next f.known → ArePlain after
-front_plain r names from f after h e = subst ArePlain (sym e) (past_plain r.file r.text names from f.tokens f.known f.to f.next h f.read f.comes)
+front_comes : (first names : List (List ℕ)) (r : Reading) (from : ℕ) (f : Front r names from) (after : List (List ℕ)) → Comes first names → after ≡ names_past f.next f.known → Comes first after
+front_comes first names r from f after h e = subst (Comes first) (sym e) (past_comes r.file r.text first names from f.tokens f.known f.to f.next h f.read f.comes)
 
-turned_whole : (texts : Texts) (c : Configuration) → ArePlain c.state.names → (r : Reading) (rs : List Reading) (from : ℕ) (n : reading.Next) → reading.IsNext r c.state.names from n → GoesWhole (turned texts c r rs n)
-turned_whole texts c h r rs from (reading.whole d to known) next =
+-- from a table to one that has come from it
+both_come : (first names : List (List ℕ)) → ((from : List (List ℕ)) → Comes from first → Comes from names) → Comes [] first → Grows first names × Comes [] names
+both_come first names on k = ((on first (record { grows = Grows-refl first; distinct = k.distinct; plain = k.plain })).grows, on [] k)
+
+turned_whole : (texts : Texts) (c : Configuration) → Comes [] c.state.names → (r : Reading) (rs : List Reading) (from : ℕ) (n : reading.Next) → reading.IsNext r c.state.names from n → GoesWhole c.state.names (turned texts c r rs n)
+turned_whole texts c k r rs from (reading.whole d to known) next =
     let e = effect (with_names known c.state) d in
-    let after = front_plain r c.state.names from next.front known h next.after in
-    let kept = subst ArePlain (sym (effect_names (with_names known c.state) d)) after in
-    following_whole texts (record c { stack = record r { progress = reached to } ∷ rs; state = e.state }) kept (length rs) (place_of d) e.events e.next
-turned_whole texts c h r rs from reading.ended next = (tt, h)
-turned_whole texts c h r rs from (reading.stopped e known) next =
-    let after = front_plain r c.state.names from next.front known h next.after in
-    ((said_whole (record c { stack = rs; state = with_names known c.state }) after _, tt), after)
+    let both = both_come c.state.names known (λ first h. front_comes first c.state.names r from next.front known h next.after) k in
+    let same = effect_names (with_names known c.state) d in
+    let after : Configuration = record c { stack = record r { progress = reached to } ∷ rs; state = e.state } in
+    move_behind c.state.names e.state.names (subst (Grows c.state.names) (sym same) both.0) (following texts after (length rs) (place_of d) e.events e.next)
+    (following_whole texts after (subst (Comes []) (sym same) both.1) (length rs) (place_of d) e.events e.next)
+turned_whole texts c k r rs from reading.ended next = (here c k, k)
+turned_whole texts c k r rs from (reading.stopped e known) next =
+    let both = both_come c.state.names known (λ first h. front_comes first c.state.names r from next.front known h next.after) k in
+    let after : Configuration = record c { stack = rs; state = with_names known c.state } in
+    (whole_behind c.state.names known (said after _ ∷ []) known both.0 (said_whole after both.1 _ [] (here after both.1)), both.1)
 
-turn_whole : (texts : Texts) (c : Configuration) → ArePlain c.state.names → (stack : List Reading) (m : Move) → Turns texts c stack m → GoesWhole m
-turn_whole texts c h [] m t = subst GoesWhole (sym t) (file_whole texts c h c.waiting)
-turn_whole texts c h (r ∷ rs) m t = subst GoesWhole (sym t.2) (turned_whole texts c h r rs (reading.byte_reached r.progress) t.0 t.1)
+turn_whole : (texts : Texts) (c : Configuration) → Comes [] c.state.names → (stack : List Reading) (m : Move) → Turns texts c stack m → GoesWhole c.state.names m
+turn_whole texts c k [] m t = subst (GoesWhole c.state.names) (sym t) (file_whole texts c k c.waiting)
+turn_whole texts c k (r ∷ rs) m t = subst (GoesWhole c.state.names) (sym t.2) (turned_whole texts c k r rs (reading.byte_reached r.progress) t.0 t.1)
 
 -- ---- a run
-run_whole : (texts : Texts) (run : Asked) {items : List Item} {c : Configuration} → Runs texts (start run) items c → AreWhole items × ArePlain c.state.names
-run_whole texts run at_start = (tt, first_plain)
+run_whole : (texts : Texts) (run : Asked) {items : List Item} {c : Configuration} → Runs texts (start run) items c → Whole [] items c.state.names × Comes [] c.state.names
+run_whole texts run at_start = (first_comes.grows, first_comes)
 run_whole texts run (one_more {done} {c} {d} items runs m) =
     let before = run_whole texts run runs in
-    let here : GoesWhole (goes items d) = turn_whole texts c before.1 c.stack (goes items d) m in
-    (whole_append done items before.0 here.0, here.1)
+    let now : GoesWhole c.state.names (goes items d) = turn_whole texts c before.1 c.stack (goes items d) m in
+    (whole_append [] done items c.state.names d.state.names before.0 now.0, now.1)
 
-log_whole : (texts : Texts) (run : Asked) (log : List Item) (h : Halt) → IsLogOf texts (start run) log h → AreWhole log
+log_whole : (texts : Texts) (run : Asked) (log : List Item) (h : Halt) → IsLogOf texts (start run) log h → (last : List (List ℕ)) × Whole [] log last
 log_whole texts run log h l =
     let before = run_whole texts run l.runs in
-    let last : GoesWhole (halts l.last h) = turn_whole texts l.final before.1 l.final.stack (halts l.last h) l.over in
-    subst AreWhole (sym l.all) (whole_append l.done l.last before.0 last)
+    let now : GoesWhole l.final.state.names (halts l.last h) = turn_whole texts l.final before.1 l.final.stack (halts l.last h) l.over in
+    (now.0, subst (λ (items : List Item). Whole [] items now.0) (sym l.all) (whole_append [] l.done l.last l.final.state.names now.0 before.0 now.1))
 
-report_whole : (texts : Texts) (asked : Option Asked) (r : Report) → IsReportOf texts asked r → AreWhole r.log
-report_whole texts None r e = subst (λ (s : Report). AreWhole s.log) (sym e) tt
-report_whole texts (Some run) r i = log_whole texts run r.log i.0 i.1
+pub log_named : (texts : Texts) (run : Asked) (log : List Item) (h : Halt) → IsLogOf texts (start run) log h → AreNamed [] (said_in log)
+log_named texts run log h l = let w = log_whole texts run log h l in whole_named [] log w.0 w.1
 
-pub each_line_is_whole : EachLineIsWhole
-each_line_is_whole = λ words texts r i. report_whole texts (run_of words) r i
+pub log_lines : (texts : Texts) (run : Asked) (log : List Item) (h : Halt) → IsLogOf texts (start run) log h → AllByRecursion IsLine (said_in log)
+log_lines texts run log h l = let w = log_whole texts run log h l in whole_lines [] log w.0 w.1

@@ -11,10 +11,10 @@ use Rattle.ath_declarations.specs.Unlisted.{is_unlisted}
 use Rattle.ath_syntax.specs.declared.place.Pos.{Pos}
 use Rattle.ath_syntax.specs.Tree.{Statement, domain_is, datatype_is, declare_is, define_is, define_fun_is, assert_is, load_is, phrase_is, DirectiveTree, directive_at}
 use Rattle.ath_terms.specs.declared.fresh.Fresh.{Fresh}
-use Rattle.ath_terms.specs.Tree.{Sent}
+use Rattle.ath_trees.specs.Tree.{Sent}
 use Rattle.ath_env.specs.Values.{sentence_of}
 use Rattle.ath_print.specs.declared.fault.FaultKind.TheVariants.{BadUtf8, NotBuilt, NotSentence, Redeclared, TooWide, UnknownSort, Arity, SortTooLarge, LooseParam}
-use Rattle.ath_print.specs.Events.{Argument, name_named, variable_named, Refusal, Event, domain_declared, declared, asserted, proved, shown, refused, exhausted}
+use Rattle.ath_print.specs.Events.{Argument, name_named, variable_named, Refusal, Event, domain_added, symbols_added, asserted, proved, shown, refused, exhausted}
 use Rattle.ath_eval.specs.Outcomes.{Outcome, gives, concludes, fails, exhausts, refusal}
 use Rattle.ath_eval.specs.Evaluation.{outcome_of, place}
 use Rattle.ath_session.specs.State.{State, context, with_left, with_signature, joining}
@@ -86,8 +86,8 @@ loading st at name = if is_utf8 name then record { state = st; events = []; next
 
 -- a directive that is built
 abbrev pub done : State → Pos → Statement → Effect
-done st at (domain_is n vs) = declaring st at (domain_declared n) false (after.domain_declared st.signature n vs)
-done st at (declare_is ns params args result) = declaring st at (declared ns) (is_unlisted st.signature params args result) (after.declared st.signature ns params args result)
+done st at (domain_is n vs) = declaring st at (domain_added n) false (after.domain_declared st.signature n vs)
+done st at (declare_is ns params args result) = declaring st at (symbols_added ns) (is_unlisted st.signature params args result) (after.declared st.signature ns params args result)
 done st at (assert_is n closed x) = asserting st (place x) (outcome_of (context st) x st.fuel st.fresh)
 done st at (load_is name) = loading st at name
 done st at (phrase_is x) = showing st (outcome_of (context st) x st.fuel st.fresh)

@@ -5,9 +5,10 @@ use Rattle.ath_io.specs.Sink.{Held, with_put, with_puts}
 use Rattle.ath_session.specs.declared.status.Status.{Status}
 use Rattle.ath_session.specs.declared.status.Status.TheVariants.{Clean, Errors, Usage, Fuel, SourceFault, SinkFault, Memory}
 use Rattle.ath_words.specs.Words.{Asked, run_of}
-use Rattle.ath_session.specs.Run.{Said, Item, asks, tells}
-use Rattle.ath_session.specs.Report.{Report, names_in, lines_in, IsReportOf, IsReport}
-use Rattle.ath_session.specs.Theorems.{TheoremsFollow}
+use Rattle.ath_session.specs.Said.{Said, line_said}
+use Rattle.ath_session.specs.Run.{Item, asks, tells}
+use Rattle.ath_session.specs.Report.{Report, names_in, said_in, lines_in, IsReportOf, IsReport}
+use Rattle.ath_session.specs.Believed.{AreBelieved}
 
 -- the shelf and the sink, as far as they tell
 pub record Outside : Type 0 where
@@ -31,24 +32,24 @@ Performed Fuel log before after = after ≡ after_items before log
 Performed SourceFault log before after =
     (front : List Item) × (more : List Item) × (name : List ℕ) × ((log ≡ front ++ asks name ∷ more) × (after ≡ after_items before (front ++ asks name ∷ [])))
 Performed SinkFault log before after =
-    (front : List Item) × (more : List Item) × (s : Said) × (count : ℕ) × ((log ≡ front ++ tells s ∷ more) × (after ≡ after_part before front (take count s.line)))
+    (front : List Item) × (more : List Item) × (s : Said) × (count : ℕ) × ((log ≡ front ++ tells s ∷ more) × (after ≡ after_part before front (take count (line_said s))))
 Performed Memory log before after =
     (front : List Item) × (more : List Item) × ((log ≡ front ++ more) × (after ≡ after_items before front))
 Performed Usage log before after = after ≡ before
 
 -- an answer that is no fault and no want of memory is the status of the report
-abbrev pub IsAnswer : Status → Status → Type 0
-IsAnswer SourceFault written = Unit {0}
-IsAnswer SinkFault written = Unit {0}
-IsAnswer Memory written = Unit {0}
-IsAnswer status written = written ≡ status
+abbrev pub IsStatusOf : Status → Status → Type 0
+IsStatusOf SourceFault written = Unit {0}
+IsStatusOf SinkFault written = Unit {0}
+IsStatusOf Memory written = Unit {0}
+IsStatusOf status written = written ≡ status
 
--- the report of a run, in which each theorem follows, is done so far as the answer says
+-- the report of a run, which may be believed, is done so far as the answer says
 pub record Reports (texts : List (List ℕ × List ℕ)) (run : Option Asked) (status : Status) (before after : Outside) : Type 0 where
   pub report : Report
   pub written : IsReportOf texts run report
-  pub follows : TheoremsFollow report
-  pub answer : IsAnswer status report.status
+  pub believed : AreBelieved (said_in report.log)
+  pub answer : IsStatusOf status report.status
   pub done : Performed status report.log before after
 
 -- the same of words, where the shelf tells its texts

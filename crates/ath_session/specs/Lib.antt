@@ -1,3 +1,4 @@
+pub mod Believed
 pub mod Built
 pub mod BuiltParts
 pub mod Directives
@@ -5,6 +6,7 @@ pub mod Ends
 pub mod Laws
 pub mod Report
 pub mod Run
+pub mod Said
 pub mod Session
 pub mod State
 pub mod Steps

@@ -1,10 +1,11 @@
 -- The report of words and texts: what is done that is seen, in order, and the status.
-use Rattle.std.specs.Prelude.{◌≡◌, ℕ, Bool, false, List, [], ◌∷◌, ◌++◌, Option, Some, None, if◌then◌else◌}
+use Rattle.std.specs.Prelude.{◌≡◌, ℕ, Bool, false, List, [], ◌∷◌, ◌++◌, map, Option, Some, None, if◌then◌else◌}
 use Rattle.std.specs.List.{list_any}
 use Rattle.ath_words.specs.Words.{Asked, run_of}
 use Rattle.ath_print.specs.Events.{is_refused}
 use Rattle.ath_session.specs.declared.status.Status.{Status}
 use Rattle.ath_session.specs.declared.status.Status.TheVariants.{Clean, Errors, Usage, Fuel, SourceFault}
+use Rattle.ath_session.specs.Said.{Said, line_said}
 use Rattle.ath_session.specs.State.{first_state}
 use Rattle.ath_session.specs.Run.{Item, asks, tells, Configuration, Halt, all_run, out_of_fuel, no_text, halts, Moves, Runs}
 
@@ -19,11 +20,15 @@ names_in [] = []
 names_in (asks name ∷ items) = name ∷ names_in items
 names_in (tells s ∷ items) = names_in items
 
+-- what is told, in order
+abbrev pub said_in : List Item → List Said
+said_in [] = []
+said_in (asks name ∷ items) = said_in items
+said_in (tells s ∷ items) = s ∷ said_in items
+
 -- the lines, in order
 abbrev pub lines_in : List Item → List (List ℕ)
-lines_in [] = []
-lines_in (asks name ∷ items) = lines_in items
-lines_in (tells s ∷ items) = s.line ∷ lines_in items
+lines_in items = map line_said (said_in items)
 
 abbrev pub is_error : Item → Bool
 is_error (asks name) = false

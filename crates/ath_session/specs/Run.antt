@@ -1,6 +1,5 @@
 -- A run, as steps from one configuration to the next. A step reads a directive and runs it, or turns to the next file.
 use Rattle.std.specs.Prelude.{◌≡◌, ℕ, nat_lt, List, [], ◌∷◌, ◌++◌, length, map, Option, Some, None, if◌then◌else◌}
-use Rattle.ath_sorts.specs.Signature.{Signature}
 use Rattle.ath_syntax.specs.declared.place.Pos.{Pos}
 use Rattle.ath_syntax.specs.Tree.{DirectiveTree, directive_at}
 use Rattle.ath_io.specs.Shelf.{front_of}
@@ -13,16 +12,11 @@ use Rattle.ath_reader.specs.Next as reading
 use Rattle.ath_print.specs.declared.fault.FaultKind.{FaultKind}
 use Rattle.ath_print.specs.declared.fault.FaultKind.TheVariants.{BadUtf8, BadChar, OpenString, NameTooLong, Unexpected, Unclosed, KindMix, TooDeep, FileTooLong, TooManyLoads, NotBuilt}
 use Rattle.ath_print.specs.Events as events
-use Rattle.ath_print.specs.Lines.{line_of}
 use Rattle.ath_eval.specs.Outcomes.{refusal}
+use Rattle.ath_session.specs.declared.limits.TheConstants.{MOST_BYTES, MOST_ASKED, MOST_LOADS}
+use Rattle.ath_session.specs.Said.{Said}
 use Rattle.ath_session.specs.State.{State, with_names}
 use Rattle.ath_session.specs.Directives.{Next, goes_on, loads, ends, effect}
-
--- an event, its line, and what is declared when it is told
-pub record Said : Type 0 where
-  pub event : events.Event
-  pub line : List ℕ
-  pub declared : Signature
 
 -- what a run does that is seen: it asks for the text of a name, or tells an event
 pub data Item : Type 0 where
@@ -53,14 +47,7 @@ items_of (goes items c) = items
 items_of (halts items h) = items
 
 abbrev pub said : Configuration → events.Event → Item
-said c e = tells (record { event = e; line = line_of c.state.names c.state.signature c.files e; declared = c.state.signature })
-
--- the most bytes that are asked for, one more than a file has
-abbrev pub most_asked : ℕ
-most_asked = 4194305
-
-abbrev pub most_bytes : ℕ
-most_bytes = 4194304
+said c e = tells (record { event = e; names = c.state.names; signature = c.state.signature; files = c.files })
 
 abbrev pub reading_of : ℕ → List ℕ → Reading
 reading_of file text = record { text = text; file = file; progress = reached 0 }
@@ -69,7 +56,7 @@ reading_of file text = record { text = text; file = file; progress = reached 0 }
 abbrev pub opened : Configuration → Pos → List ℕ → List ℕ → Move
 opened c at name text =
     let named = record c { files = c.files ++ name ∷ [] } in
-    if nat_lt most_bytes (length text)
+    if nat_lt MOST_BYTES (length text)
     then goes (asks name ∷ said named (events.refused at (refusal FileTooLong [])) ∷ []) named
     else goes (asks name ∷ []) (record named { stack = reading_of (length c.files) text ∷ c.stack })
 
@@ -80,7 +67,7 @@ fetched c at name (Some text) = opened c at name text
 
 -- the text of a name among these texts, each with its name
 abbrev pub asking : List (List ℕ × List ℕ) → Configuration → Pos → List ℕ → Move
-asking texts c at name = fetched c at name (front_of texts name most_asked)
+asking texts c at name = fetched c at name (front_of texts name MOST_ASKED)
 
 abbrev pub beginning_of : ℕ → Pos
 beginning_of file = record { file = file; line = 1; col = 1 }
@@ -90,10 +77,6 @@ abbrev pub next_file : List (List ℕ × List ℕ) → Configuration → List (L
 next_file texts c [] = halts [] all_run
 next_file texts c (name ∷ names) = asking texts (record c { waiting = names }) (beginning_of (length c.files)) name
 
--- loads that stand in one another
-abbrev pub most_loads : ℕ
-most_loads = 16
-
 abbrev pub tell_all : Configuration → List events.Event → List Item
 tell_all c es = map (said c) es
 
@@ -102,7 +85,7 @@ abbrev pub following : List (List ℕ × List ℕ) → Configuration → ℕ →
 following texts c outer at es goes_on = goes (tell_all c es) c
 following texts c outer at es ends = halts (tell_all c es) out_of_fuel
 following texts c outer at es (loads name) =
-    if nat_lt outer most_loads
+    if nat_lt outer MOST_LOADS
     then asking texts c at name
     else goes (said c (events.refused at (refusal TooManyLoads [])) ∷ []) c
 

@@ -3,7 +3,7 @@ use Rattle.std.specs.Prelude.{ℕ, List, [], ◌∷◌, ◌++◌}
 use Rattle.ath_sorts.specs.Signature.{Signature, initial}
 use Rattle.ath_names.specs.Names.{first_names}
 use Rattle.ath_terms.specs.declared.fresh.Fresh.{Fresh}
-use Rattle.ath_terms.specs.Tree.{Sent}
+use Rattle.ath_trees.specs.Tree.{Sent}
 use Rattle.ath_eval.specs.Outcomes.{Context}
 
 -- the table of names, what is declared, the assumption base with its oldest sentence first, the steps that are left, and the

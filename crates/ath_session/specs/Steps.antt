@@ -7,7 +7,9 @@ use Rattle.ath_session.specs.declared.status.Status.TheVariants.{Clean, Errors, 
 use Rattle.ath_session.specs.declared.desk.Desk.{Desk}
 use Rattle.ath_session.specs.declared.desk.Flow.{Flow}
 use Rattle.ath_session.specs.declared.desk.Flow.TheVariants.{On, End}
-use Rattle.ath_session.specs.Run.{Said, Item, asks, tells, Configuration, reading_of, most_bytes, Move, goes, halts, items_of, all_run, out_of_fuel}
+use Rattle.ath_session.specs.declared.limits.TheConstants.{MOST_BYTES}
+use Rattle.ath_session.specs.Said.{Said, line_said}
+use Rattle.ath_session.specs.Run.{Item, asks, tells, Configuration, reading_of, Move, goes, halts, items_of, all_run, out_of_fuel}
 use Rattle.ath_session.specs.Report.{has_error}
 use Rattle.ath_session.specs.Session.{state_of}
 use Rattle.ath_session.specs.State.{first_state}
@@ -36,7 +38,7 @@ Ended m Clean errors o o' = (m ≡ halts [] all_run) × (errors ≡ false) × (o
 Ended m Errors errors o o' = (m ≡ halts [] all_run) × (errors ≡ true) × (o' ≡ o)
 Ended m Fuel errors o o' = (items : List Item) × ((m ≡ halts items out_of_fuel) × (o' ≡ after_items o items))
 Ended m SourceFault errors o o' = (name : List ℕ) × (more : List Item) × ((items_of m ≡ asks name ∷ more) × (o' ≡ after_items o (asks name ∷ [])))
-Ended m SinkFault errors o o' = (front : List Item) × (more : List Item) × (s : Said) × (count : ℕ) × ((items_of m ≡ front ++ tells s ∷ more) × (o' ≡ after_part o front (take count s.line)))
+Ended m SinkFault errors o o' = (front : List Item) × (more : List Item) × (s : Said) × (count : ℕ) × ((items_of m ≡ front ++ tells s ∷ more) × (o' ≡ after_part o front (take count (line_said s))))
 Ended m Memory errors o o' = (front : List Item) × (more : List Item) × ((items_of m ≡ front ++ more) × (o' ≡ after_items o front))
 Ended m Usage errors o o' = ⊥
 
@@ -55,12 +57,12 @@ AreGoing c = All IsGoing c.stack
 
 -- at most one text more is open, from its beginning
 abbrev pub Opens : Configuration → Configuration → Type 0
-Opens c d = (d.waiting ≡ c.waiting) × ((d.stack ≡ c.stack) ⊎ ((file : ℕ) × (text : List ℕ) × ((length text ≤ most_bytes) × (d.stack ≡ reading_of file text ∷ c.stack))))
+Opens c d = (d.waiting ≡ c.waiting) × ((d.stack ≡ c.stack) ⊎ ((file : ℕ) × (text : List ℕ) × ((length text ≤ MOST_BYTES) × (d.stack ≡ reading_of file text ∷ c.stack))))
 
 -- a text that was fetched is open, or is too long
 abbrev pub IsOpened : Configuration → List ℕ → List ℕ → Bool → Configuration → Type 0
-IsOpened c name text true d = (length text ≤ most_bytes) × (d ≡ record c { files = c.files ++ name ∷ []; stack = reading_of (length c.files) text ∷ c.stack })
-IsOpened c name text false d = (most_bytes < length text) × (d ≡ record c { files = c.files ++ name ∷ [] })
+IsOpened c name text true d = (length text ≤ MOST_BYTES) × (d ≡ record c { files = c.files ++ name ∷ []; stack = reading_of (length c.files) text ∷ c.stack })
+IsOpened c name text false d = (MOST_BYTES < length text) × (d ≡ record c { files = c.files ++ name ∷ [] })
 
 -- How much of a run is left, so that each step leaves less: the files that wait, and the bytes of the open texts, of which
 -- one counts as much as a whole text in it.

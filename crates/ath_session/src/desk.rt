@@ -18,6 +18,7 @@ ghost use Rattle.ath_session.specs.Run.{Move, Moves, goes, said, tell_all, askin
 ghost use Rattle.ath_session.specs.Steps.{configuration_of, Did, AreGoing, Opens, IsOpened, weight};
 ghost use Rattle.ath_session.specs.Session.{state_of, IsSorted, ParamsDiffer};
 
+use crate::limits::{MOST_ASKED, MOST_BYTES, MOST_LOADS, MOST_OPEN};
 use crate::session::{Next, Session};
 use crate::status::Status;
 use ath_io::{FetchError, Shelf, Sink};
@@ -26,15 +27,6 @@ use ath_reader::{Reader, SyntaxError, SyntaxKind};
 use ath_syntax::{Directive, Pos};
 use ath_tokens::LexKind;
 use std::alloc::{AllocError, Global};
-
-/// The most bytes that are asked for, one more than a file has.
-const MOST_ASKED: usize = 4_194_305;
-
-/// The most bytes of a file.
-const MOST_BYTES: usize = 4_194_304;
-
-/// The most loads that stand in one another.
-const MOST_LOADS: usize = 16;
 
 /// A run: the session, the files of the command line and how many of them are begun, the texts that are open with the
 /// innermost last, the names of all texts that were fetched, and whether an error was told.
@@ -210,7 +202,7 @@ fn next_file<S: Shelf, K: Sink>(alloc: Global, desk: &mut Desk, shelf: &mut S, s
     ensures session { desk.new.session ≡ desk.old.session }
     ensures did { (t : Texts) → S.told shelf.old ≡ Some t → Did (next_file t.texts (configuration_of desk.old) (configuration_of desk.old).waiting) result desk.old.errors desk.new.errors (configuration_of desk.new) (record { shelf = S.told shelf.old; sink = K.told sink.old }) (record { shelf = S.told shelf.new; sink = K.told sink.new }) }
     ensures going { result ≡ On → AreGoing (configuration_of desk.new) }
-    ensures shallow { result ≡ On → length desk.new.open.items ≤ 17 }
+    ensures shallow { result ≡ On → length desk.new.open.items ≤ MOST_OPEN }
     ensures falls { result ≡ On → weight (configuration_of desk.new) < weight (configuration_of desk.old) }
     ensures source_later { S.faults shelf.old ≤ S.faults shelf.new }
     ensures source_cause { result ≡ End SourceFailed → Rose (S.faults shelf.old) (S.faults shelf.new) }
@@ -252,7 +244,7 @@ fn run_directive<S: Shelf, K: Sink>(
     ensures sorted { IsSorted desk.new.session.world }
     ensures did { (t : Texts) (d : DirectiveTree) → S.told shelf.old ≡ Some t → IsDirective desk.old.session.world.phrases directive.now d → Did (following t.texts (record (configuration_of desk.old) { state = (effect (configuration_of desk.old).state d).state }) (length desk.old.open.items - 1) directive.now.pos (effect (configuration_of desk.old).state d).events (effect (configuration_of desk.old).state d).next) result desk.old.errors desk.new.errors (configuration_of desk.new) (record { shelf = S.told shelf.old; sink = K.told sink.old }) (record { shelf = S.told shelf.new; sink = K.told sink.new }) }
     ensures opens { result ≡ On → Opens (configuration_of desk.old) (configuration_of desk.new) }
-    ensures shallow { result ≡ On → length desk.old.open.items ≤ 17 → length desk.new.open.items ≤ 17 }
+    ensures shallow { result ≡ On → length desk.old.open.items ≤ MOST_OPEN → length desk.new.open.items ≤ MOST_OPEN }
     ensures source_later { S.faults shelf.old ≤ S.faults shelf.new }
     ensures source_cause { result ≡ End SourceFailed → Rose (S.faults shelf.old) (S.faults shelf.new) }
     ensures sink_later { K.faults sink.old ≤ K.faults sink.new }
@@ -302,13 +294,13 @@ fn read_on<S: Shelf, K: Sink>(
     shelf: &mut S,
     sink: &mut K,
 ) -> Flow
-    requires shallow { length desk.old.open.items ≤ 16 }
+    requires shallow { length desk.old.open.items ≤ MOST_LOADS }
     requires sorted { IsSorted desk.old.session.world }
     requires going { AreGoing (record (configuration_of desk.old) { stack = reader ∷ (configuration_of desk.old).stack }) }
     ensures sorted { IsSorted desk.new.session.world }
     ensures did { (t : Texts) (m : Move) → S.told shelf.old ≡ Some t → Moves t.texts (record (configuration_of desk.old) { stack = reader ∷ (configuration_of desk.old).stack }) m → Did m result desk.old.errors desk.new.errors (configuration_of desk.new) (record { shelf = S.told shelf.old; sink = K.told sink.old }) (record { shelf = S.told shelf.new; sink = K.told sink.new }) }
     ensures going { result ≡ On → AreGoing (configuration_of desk.new) }
-    ensures shallow { result ≡ On → length desk.new.open.items ≤ 17 }
+    ensures shallow { result ≡ On → length desk.new.open.items ≤ MOST_OPEN }
     ensures falls { result ≡ On → weight (configuration_of desk.new) < weight (record (configuration_of desk.old) { stack = reader ∷ (configuration_of desk.old).stack }) }
     ensures source_later { S.faults shelf.old ≤ S.faults shelf.new }
     ensures source_cause { result ≡ End SourceFailed → Rose (S.faults shelf.old) (S.faults shelf.new) }
@@ -336,13 +328,13 @@ pub(crate) fn advance<S: Shelf, K: Sink>(
     shelf: &mut S,
     sink: &mut K,
 ) -> Flow
-    requires shallow { length desk.old.open.items ≤ 17 }
+    requires shallow { length desk.old.open.items ≤ MOST_OPEN }
     requires sorted { IsSorted desk.old.session.world }
     requires going { AreGoing (configuration_of desk.old) }
     ensures sorted { IsSorted desk.new.session.world }
     ensures did { (t : Texts) (m : Move) → S.told shelf.old ≡ Some t → Moves t.texts (configuration_of desk.old) m → Did m result desk.old.errors desk.new.errors (configuration_of desk.new) (record { shelf = S.told shelf.old; sink = K.told sink.old }) (record { shelf = S.told shelf.new; sink = K.told sink.new }) }
     ensures going { result ≡ On → AreGoing (configuration_of desk.new) }
-    ensures shallow { result ≡ On → length desk.new.open.items ≤ 17 }
+    ensures shallow { result ≡ On → length desk.new.open.items ≤ MOST_OPEN }
     ensures falls { result ≡ On → weight (configuration_of desk.new) < weight (configuration_of desk.old) }
     ensures source_later { S.faults shelf.old ≤ S.faults shelf.new }
     ensures source_cause { result ≡ End SourceFailed → Rose (S.faults shelf.old) (S.faults shelf.new) }

@@ -1,6 +1,6 @@
 // Laws of directives, runs and reports.
 
-ghost use Rattle.ath_session.specs.Laws.{OneReport, SomeReport, EachTheoremFollows, RefusedLeavesState, FuelNeverRises, ExhaustedKeepsState, EachLineIsWhole};
+ghost use Rattle.ath_session.specs.Laws.{OneReport, SomeReport, EachReportIsBelieved, RefusedLeavesState, FuelNeverRises, ExhaustedKeepsState};
 
 /// The words and the texts by name have one report at most.
 pub fn one_report()
@@ -13,9 +13,10 @@ pub fn some_report()
     ensures { SomeReport }
 {}
 
-/// Each theorem of a report has a derivation, under no hypotheses, from the sentences that were asserted before it.
-pub fn each_theorem_follows()
-    ensures { EachTheoremFollows }
+/// What a report tells may be believed: each theorem has a derivation, under no hypotheses, from the sentences that were
+/// asserted before it, names are clear throughout, and lines are lines.
+pub fn each_report_is_believed()
+    ensures { EachReportIsBelieved }
 {}
 
 /// A directive that is refused has that one event, and leaves all of the state but the fuel and the counters.
@@ -32,9 +33,4 @@ pub fn fuel_never_rises()
 /// is left, and ends the run.
 pub fn exhausted_keeps_state()
     ensures { ExhaustedKeepsState }
-{}
-
-/// Each line has one line end, its last byte, and begins with `Theorem: ` exactly where its event is a theorem.
-pub fn each_line_is_whole()
-    ensures { EachLineIsWhole }
 {}

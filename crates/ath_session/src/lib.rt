@@ -3,7 +3,10 @@
 
 mod built;
 mod desk;
+#[cfg(test)]
+mod examples;
 pub mod laws;
+pub mod limits;
 pub mod session;
 pub mod status;
 #[cfg(test)]

@@ -11,9 +11,9 @@ ghost use Rattle.ath_declarations.specs.Unlisted.{is_unlisted};
 ghost use Rattle.ath_eval.specs.Evaluation.{outcome_of, place};
 ghost use Rattle.ath_eval.specs.Outcomes.{refusal};
 ghost use Rattle.ath_env.specs.Values.{IsIn, value_at, sentence_of};
-ghost use Rattle.ath_terms.specs.Measure.{IsSmall};
+ghost use Rattle.ath_trees.specs.Measure.{IsSmall};
 ghost use Rattle.ath_terms.specs.Trees.{Trees, sent_at};
-ghost use Rattle.ath_print.specs.Events.{domain_declared as told_domain, declared as told_symbols};
+ghost use Rattle.ath_print.specs.Events.{domain_added, symbols_added};
 ghost use Rattle.ath_print.specs.Stands.{IsFault, IsFaultIn, refusal_of};
 ghost use Rattle.ath_session.specs.Directives.{effect, done, declaring, declaration_refusal, unknown_sort, asserting, asserting_sentence, showing, loading, refusing};
 ghost use Rattle.ath_session.specs.Session.{state_of, IsSorted, ParamsDiffer, IsReply, KeepsText};
@@ -28,7 +28,9 @@ use ath_print::{Event, Fault, FaultArg, FaultKind};
 use ath_reader::{OpTable, Reader, SyntaxError};
 use ath_sorts::{SigError, Signature, Sym};
 use ath_syntax::{Directive, PhraseId, Phrases, Pos, SortText, What};
-use ath_terms::{Fresh, SentId, Store};
+use ath_terms::{Fresh, Store};
+use ath_trees::SentId;
+use ath_words::limits::MOST_FUEL;
 use sqlite_items::Items;
 use std::alloc::{AllocError, Global};
 
@@ -53,7 +55,7 @@ pub struct Reply {
 /// A run's state, and the operators of its language.
 #[derive(Drop)]
 pub struct Session {
-    pub world: World,
+    world: World,
     operators: OpTable,
     ghost table: { take (length first_names) world.names ≡ first_names },
 }
@@ -111,7 +113,7 @@ fn declaration_fault(alloc: Global, unlisted: bool, error: SigError) -> Result<F
 impl Session {
     /// A session with so many steps.
     pub fn new(alloc: Global, fuel: u64) -> Result<Session, AllocError>
-        requires { fuel ≤ 1000000000 }
+        requires { fuel ≤ MOST_FUEL }
         ensures state { IfOk result (λ s. state_of s.world ≡ first_state fuel) }
         ensures sorted { IfOk result (λ s. IsSorted s.world) }
     {
@@ -228,7 +230,7 @@ impl Session {
         requires { IsSorted self.old.world }
         ensures text { KeepsText self.old.world self.new.world }
         ensures sorted { IsSorted self.new.world }
-        ensures reply { IfOk result (λ r. IsReply self.new.world r (declaring (state_of self.old.world) at (told_domain name) false (domain_declared self.old.world.sig name vars.now))) }
+        ensures reply { IfOk result (λ r. IsReply self.new.world r (declaring (state_of self.old.world) at (domain_added name) false (domain_declared self.old.world.sig name vars.now))) }
     {
         match declare_domain(alloc, &mut self.world.sig, name, vars) {
             Ok(()) => telling(alloc, Event::Domain(name)),
@@ -249,7 +251,7 @@ impl Session {
         requires sorted { IsSorted self.old.world }
         ensures text { KeepsText self.old.world self.new.world }
         ensures sorted { IsSorted self.new.world }
-        ensures reply { IfOk result (λ r. IsReply self.new.world r (declaring (state_of self.old.world) at (told_symbols names.now) (is_unlisted self.old.world.sig list.now args.now result_sort.now) (declared self.old.world.sig names.now list.now args.now result_sort.now))) }
+        ensures reply { IfOk result (λ r. IsReply self.new.world r (declaring (state_of self.old.world) at (symbols_added names.now) (is_unlisted self.old.world.sig list.now args.now result_sort.now) (declared self.old.world.sig names.now list.now args.now result_sort.now))) }
     {
         let unlisted = is_unlisted(&self.world.sig, list, args, result_sort);
         match declare(alloc, &mut self.world.sig, names, list, args, result_sort) {

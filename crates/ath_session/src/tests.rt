@@ -43,7 +43,7 @@ const FIRST: &[u8] = b"(declare (A B) Boolean)\n(assert (if A B))\n(assert A)\n(
 const FIRST_LINES: &str = "Symbols: A, B\nAssertion: (if A B)\nAssertion: A\nTheorem: B\n";
 
 /// Runs a script of the name `x.ath`.
-fn expect_lines(
+pub(crate) fn expect_lines(
     rt: &(impl Abort + AllocGlobal),
     script: &[u8],
     lines: &str,
@@ -120,6 +120,22 @@ fn scripts_give_their_reports(rt: HostRuntime) -> Result<(), Fail> {
 }
 
 #[test]
+fn refused_declarations_are_told(rt: HostRuntime) -> Result<(), Fail> {
+    let script =
+        b"domain N\ndomain N\ndeclare f: [M] -> N\ndeclare f: [(N N)] -> N\ndeclare f: ('T) [N] -> N\ndatatype B := b | b\n";
+    let lines =
+        "Domain: N\nError: \"r30.ath\":2:1: Redeclared N\nError: \"r30.ath\":3:1: UnknownSort M\nError: \"r30.ath\":4:1: Arity N\nError: \"r30.ath\":5:1: LooseParam 'T\nError: \"r30.ath\":6:1: NotBuilt\n";
+    expect_report(
+        &rt,
+        &["r30.ath"],
+        &[("r30.ath", script)],
+        lines,
+        Status::Errors,
+    )?;
+    Ok(())
+}
+
+#[test]
 fn files_are_run_in_order(rt: HostRuntime) -> Result<(), Fail> {
     let twice: [(&str, &[u8]); 2] = [
         ("twice.ath", b"(declare A Boolean)\n(assert A))\nA"),
@@ -133,6 +149,12 @@ fn files_are_run_in_order(rt: HostRuntime) -> Result<(), Fail> {
     ];
     let lines = "Symbols: A\nTerm: A\n";
     expect_report(&rt, &["m.ath"], &loaded, lines, Status::Clean)?;
+    let twice: [(&str, &[u8]); 2] = [
+        ("a.ath", b"load \"b.ath\" load \"b.ath\" true"),
+        ("b.ath", b"declare A: Boolean"),
+    ];
+    let lines = "Symbols: A\nError: \"b.ath\":1:1: Redeclared A\nTerm: true\n";
+    expect_report(&rt, &["a.ath"], &twice, lines, Status::Errors)?;
     let absent: [(&str, &[u8]); 1] = [("m.ath", b"true load \"a.ath\" true")];
     expect_report(
         &rt,

@@ -5,6 +5,7 @@ ghost use Rattle.ath_io.specs.Faults.{Rose};
 ghost use Rattle.ath_io.specs.Shelf.{Texts};
 ghost use Rattle.ath_words.specs.Words.{run_of};
 ghost use Rattle.ath_session.specs.declared.status.Status.TheVariants.{Memory, SinkFault, SourceFault, Usage};
+ghost use Rattle.ath_session.specs.Believed.{BelievedTold};
 ghost use Rattle.ath_session.specs.Ends.{Reports, ReportsTold, Completes};
 ghost use Rattle.ath_session.specs.Session.{IsSorted};
 ghost use Rattle.ath_session.specs.Steps.{IsNewDesk};
@@ -13,6 +14,7 @@ use crate::desk::{Desk, Flow, advance};
 use crate::session::Session;
 use crate::status::Status;
 use ath_io::{Shelf, Sink};
+use ath_words::limits::MOST_FUEL;
 use ath_words::read_words;
 use std::alloc::{AllocError, Global};
 
@@ -28,6 +30,7 @@ pub fn athena<S: Shelf, K: Sink>(
     ensures usage { result ≡ Usage → run_of (map string_bytes words.now.items) ≡ None }
     ensures untouched { run_of (map string_bytes words.now.items) ≡ None → (result ≡ Usage ⊎ result ≡ Memory) × (shelf.new ≡ shelf.old) × (sink.new ≡ sink.old) }
     ensures report { ReportsTold (map string_bytes words.now.items) result (record { shelf = S.told shelf.old; sink = K.told sink.old }) (record { shelf = S.told shelf.new; sink = K.told sink.new }) }
+    ensures theorems { BelievedTold result (S.told shelf.old) (K.told sink.old) (K.told sink.new) }
     ensures source_later { S.faults shelf.old ≤ S.faults shelf.new }
     ensures source_cause { result ≡ SourceFault → Rose (S.faults shelf.old) (S.faults shelf.new) }
     ensures sink_later { K.faults sink.old ≤ K.faults sink.new }
@@ -43,7 +46,7 @@ pub fn athena<S: Shelf, K: Sink>(
 
 /// A desk on which nothing is done yet.
 fn desk_of(alloc: Global, fuel: u64, files: &[&str]) -> Result<Desk, AllocError>
-    requires { fuel ≤ 1000000000 }
+    requires { fuel ≤ MOST_FUEL }
     ensures new { IfOk result (λ desk. IsNewDesk desk fuel (map (λ file. file.now) files.now)) }
     ensures sorted { IfOk result (λ desk. IsSorted desk.session.world) }
 {
@@ -70,7 +73,7 @@ fn run_files<S: Shelf, K: Sink>(
     shelf: &mut S,
     sink: &mut K,
 ) -> Status
-    requires { fuel ≤ 1000000000 }
+    requires { fuel ≤ MOST_FUEL }
     ensures report { (t : Texts) → S.told shelf.old ≡ Some t → Reports t.texts (Some (record { fuel = fuel; files = map (λ file. file.now) files.now })) result (record { shelf = S.told shelf.old; sink = K.told sink.old }) (record { shelf = S.told shelf.new; sink = K.told sink.new }) }
     ensures no_usage { result ≡ Usage → ⊥ }
     ensures source_later { S.faults shelf.old ≤ S.faults shelf.new }

@@ -4,8 +4,8 @@ use Rattle.std.proofs.lemmas.Grind.{common_steps}
 use Rattle.std.proofs.lemmas.List.Folds.{list_any-append}
 use Rattle.std.specs.List.{AllByRecursion, list_any}
 use Rattle.ath_sorts.specs.declared.graph.Graph.{Graph}
-use Rattle.ath_sorts.specs.declared.graph.Node.{Node}
-use Rattle.ath_sorts.specs.declared.graph.Node.TheVariants.{Leaf, Branch}
+use Rattle.ath_sorts.specs.declared.nodes.Node.{Node}
+use Rattle.ath_sorts.specs.declared.nodes.Node.TheVariants.{Leaf, Branch}
 use Rattle.ath_sorts.specs.declared.sorts.SVar.{SVar}
 use Rattle.ath_sorts.specs.declared.sorts.Sort.{Sort, Var, Con}
 use Rattle.ath_sorts.specs.declared.sorts.Sym.{Sym}

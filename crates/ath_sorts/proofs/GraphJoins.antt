@@ -2,8 +2,8 @@
 use Rattle.std.proofs.Common.{◌≡◌, ℕ, zero, suc, ◌+◌, ◌<◌, ◌≤◌, Bool, true, false, cond, ◌==◌, nat_lt, IsTrue, List, [], ◌∷◌, ◌++◌, length, map, take, drop, slice_get, slice_set, Option, Some, None, unwrap_or, refl, sym, ◌∙◌, ap, subst, arith, ◌⊎◌, inl, inr}
 use Rattle.std.proofs.lemmas.Grind.{common_steps}
 use Rattle.ath_sorts.specs.declared.graph.Graph.{Graph}
-use Rattle.ath_sorts.specs.declared.graph.Node.{Node}
-use Rattle.ath_sorts.specs.declared.graph.Node.TheVariants.{Leaf, Branch}
+use Rattle.ath_sorts.specs.declared.nodes.Node.{Node}
+use Rattle.ath_sorts.specs.declared.nodes.Node.TheVariants.{Leaf, Branch}
 use Rattle.ath_sorts.specs.declared.sorts.SVar.{SVar}
 use Rattle.ath_sorts.specs.declared.sorts.SVar.TheVariants.{Written, Made}
 use Rattle.ath_sorts.specs.declared.sorts.Sort.{Sort}
@@ -14,10 +14,10 @@ use Rattle.ath_sorts.proofs.GraphTrees.{leaf-inj, leaf-not-branch}
 use Rattle.ath_sorts.proofs.Bools.{true-not-false, bool_cases, num_cases}
 use Rattle.ath_sorts.proofs.Gets.{length-map'}
 
-rename-same : (x y : ℕ) → rename x y x ≡ y
+pub rename-same : (x y : ℕ) → rename x y x ≡ y
 rename-same x y = let e : (x == x) ≡ true = grind (arith, common_steps) in rw e refl
 
-rename-other : (x y c : ℕ) → (c ≡ x → ⊥) → rename x y c ≡ c
+pub rename-other : (x y c : ℕ) → (c ≡ x → ⊥) → rename x y c ≡ c
 rename-other x y c h = let e : (c == x) ≡ false = grind (arith, common_steps) in rw e refl
 
 before-trans : (a b c : SVar) (i j k : ℕ) → stands_before a i b j ≡ true → stands_before b j c k ≡ true → stands_before a i c k ≡ true
@@ -189,23 +189,15 @@ module _ (g : Graph) (is_graph : IsGraph g) (x y : ℕ) (apart : x ≡ y → ⊥
       apart (sym p ∙ c_is))
       ((class_in x x_in).0 ∙ ap Some x_named) (omega arith)
 
-set_step : (r : ℕ → ℕ) (xs : List ℕ) (at v : ℕ) → slice_get (map r (take at xs) ++ drop at xs) at ≡ Some v → slice_set (map r (take at xs) ++ drop at xs) at (r v) ≡ map r (take (suc at) xs) ++ drop (suc at) xs
-set_step r [] at v h = absurd (some-not-none v (sym h ∙ empty at))
-  where
-    empty : (at : ℕ) → slice_get (map r (take at []) ++ drop at []) at ≡ None
-    empty zero = refl
-    empty (suc at) = refl
-set_step r (x ∷ xs) zero v h = ap (λ z. r z ∷ xs) (sym (some-inj x v h))
-set_step r (x ∷ xs) (suc at) v h = ap (λ z. r x ∷ z) (set_step r xs at v h)
+num_apart : (x y : ℕ) → (x ≡ y → ⊥) → (x == y) ≡ false
+num_apart x y h = grind (arith, common_steps)
 
--- a turn of the loop that renames
-pub rename_turn : (r : ℕ → ℕ) (first class : List ℕ) (at v : ℕ) → class ≡ map r (take at first) ++ drop at first → at < length class → v ≡ class_at class at → slice_set class at (r v) ≡ map r (take (at + 1) first) ++ drop (at + 1) first
-rename_turn r first class at v e inside is =
-    let p = get-there class at inside in
-    let q : v ≡ p.0 = is ∙ ap (λ o. unwrap_or o at) p.1 in
-    let k : suc at ≡ at + 1 = omega arith in
-    let P : ℕ → Type 0 = λ n. slice_set class at (r v) ≡ map r (take n first) ++ drop n first in
-    subst P k (ap (λ x. slice_set x at (r v)) e ∙ set_step r first at v (sym (ap (λ x. slice_get x at) e) ∙ p.1 ∙ ap Some (sym q)))
+module _ (nodes : List Node) (class : List ℕ) (x y : ℕ) (apart : x ≡ y → ⊥) where
+  pub names_first : names_class (slice_get nodes x) x (slice_get nodes y) y ≡ true → join_names nodes class x y ≡ map (rename y x) class
+  names_first h = rw (num_apart x y apart, h) refl
+
+  pub names_second : names_class (slice_get nodes x) x (slice_get nodes y) y ≡ false → join_names nodes class x y ≡ map (rename x y) class
+  names_second h = rw (num_apart x y apart, h) refl
 
 -- what is known of a graph in which the classes of a and b are one
 pub record Joined (g new : Graph) (a b : ℕ) : Type 0 where
@@ -260,15 +252,6 @@ module _ (g : Graph) (is_graph : IsGraph g) (a b : ℕ) (a_in : a < length g.nod
     fewer_now g is_graph x y apart x_in y_in x_named y_named on_branch on_leaf,
   )
 
-  num_apart : (x y : ℕ) → (x ≡ y → ⊥) → (x == y) ≡ false
-  num_apart x y h = grind (arith, common_steps)
-
-  names_first : (x y : ℕ) → (x ≡ y → ⊥) → names_class (slice_get g.nodes x) x (slice_get g.nodes y) y ≡ true → join_names g.nodes g.class x y ≡ map (rename y x) g.class
-  names_first x y apart h = rw (num_apart x y apart, h) refl
-
-  names_second : (x y : ℕ) → (x ≡ y → ⊥) → names_class (slice_get g.nodes x) x (slice_get g.nodes y) y ≡ false → join_names g.nodes g.class x y ≡ map (rename x y) g.class
-  names_second x y apart h = rw (num_apart x y apart, h) refl
-
   pub joined_apart : (new : Graph) → (class_at g.class a ≡ class_at g.class b → ⊥) → new.nodes ≡ g.nodes → new.class ≡ join_class g.nodes g.class a b → Joined g new a b × (classes 0 new.class < classes 0 g.class)
   joined_apart new apart same_nodes is =
       let x = class_at g.class a in
@@ -277,29 +260,12 @@ module _ (g : Graph) (is_graph : IsGraph g) (a b : ℕ) (a_in : a < length g.nod
       let y_in = is_graph.below b b_in in
       elim (bool_cases (names_class (slice_get g.nodes x) x (slice_get g.nodes y) y)) [
         | inl h ↦
-            let e : new ≡ record { nodes = g.nodes; class = map (rename y x) g.class } = λ i. record { nodes = same_nodes i; class = (is ∙ names_first x y apart h) i } in
+            let e : new ≡ record { nodes = g.nodes; class = map (rename y x) g.class } = λ i. record { nodes = same_nodes i; class = (is ∙ names_first g.nodes g.class x y apart h) i } in
             subst P (sym e) (by_renaming y x (λ q. apart (sym q)) y_in x_in (is_graph.named b) (is_graph.named a)
             (named_branch x y (slice_get g.nodes x) (slice_get g.nodes y) refl refl h x_in) (named_leaf x y h)
             (λ f r q. sym (up f r q)) (λ f r q. down f r (sym q)))
         | inr h ↦
-            let e : new ≡ record { nodes = g.nodes; class = map (rename x y) g.class } = λ i. record { nodes = same_nodes i; class = (is ∙ names_second x y apart h) i } in
+            let e : new ≡ record { nodes = g.nodes; class = map (rename x y) g.class } = λ i. record { nodes = same_nodes i; class = (is ∙ names_second g.nodes g.class x y apart h) i } in
             subst P (sym e) (by_renaming x y apart x_in y_in (is_graph.named a) (is_graph.named b)
             (unnamed_branch x y (slice_get g.nodes x) (slice_get g.nodes y) refl h x_in) (unnamed_leaf x y apart h) up down)
       ]
-
-  names_same : (x y : ℕ) → x ≡ y → join_names g.nodes g.class x y ≡ g.class
-  names_same x y e = let p : (x == y) ≡ true = grind (arith, common_steps) in rw p refl
-
-  pub joined_any : (new : Graph) → new.nodes ≡ g.nodes → new.class ≡ join_class g.nodes g.class a b → Joined g new a b
-  joined_any new same_nodes is = elim (num_cases (class_at g.class a) (class_at g.class b)) [
-    | inl p ↦
-        let Q : Graph → Type 0 = λ n. Joined g n a b in
-        let e : new ≡ g = λ i. record { nodes = same_nodes i; class = (is ∙ names_same (class_at g.class a) (class_at g.class b) p) i } in
-        subst Q (sym e) (record {
-          graph = is_graph;
-          respects = λ f r q. r;
-          respected = λ f r. r;
-          equal = λ f r. down f r (ap (value f g.nodes) p);
-        })
-    | inr p ↦ (joined_apart new p same_nodes is).0
-  ]

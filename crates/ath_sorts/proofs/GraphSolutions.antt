@@ -2,8 +2,8 @@
 use Rattle.std.proofs.Common.{◌≡◌, ℕ, zero, suc, ◌+◌, ◌<◌, ◌≤◌, true, false, cond, nat_lt, IsTrue, List, [], ◌∷◌, ◌++◌, length, slice_get, Some, None, refl, sym, ◌∙◌, ap, subst, arith, ◌⊎◌, inl, inr}
 use Rattle.std.proofs.lemmas.Grind.{common_steps}
 use Rattle.ath_sorts.specs.declared.graph.Graph.{Graph}
-use Rattle.ath_sorts.specs.declared.graph.Node.{Node}
-use Rattle.ath_sorts.specs.declared.graph.Node.TheVariants.{Leaf, Branch}
+use Rattle.ath_sorts.specs.declared.nodes.Node.{Node}
+use Rattle.ath_sorts.specs.declared.nodes.Node.TheVariants.{Leaf, Branch}
 use Rattle.ath_sorts.specs.declared.sorts.SVar.{SVar}
 use Rattle.ath_sorts.specs.declared.sorts.SVar.TheVariants.{Written, Made}
 use Rattle.ath_sorts.specs.declared.sorts.Sort.{Sort, Var}
@@ -154,7 +154,7 @@ module _ (g : Graph) (pairs : List (Sort × Sort)) (solves : Solves g pairs) (s 
   maps_all i v k = h.maps i v (get-within g.nodes i (Leaf v) k) k
 
   respected : Respects (image s) g
-  respected = trees-respected solves.graph solves.closed solves.trees (image s) maps_all
+  respected = trees-respected solves.stands.graph solves.stands.closed solves.trees (image s) maps_all
 
   unmoved : (v : SVar) → LeafFree g.nodes v → image s v ≡ Var v
   unmoved v free = image-none s v (h.others v (λ i l k. free i k))
@@ -162,14 +162,14 @@ module _ (g : Graph) (pairs : List (Sort × Sort)) (solves : Solves g pairs) (s 
   -- a map that respects the graph isn't changed by the solution before it
   absorbs : (f : SVar → Sort) → Respects f g → (v : SVar) → apply_to f (image s v) ≡ f v
   absorbs f r v = elim (find_leaf g.nodes v) [
-    | inl k ↦ tree-value solves.graph f r (get-within g.nodes k.0 (Leaf v) k.1) (maps_all k.0 v k.1) ∙ value-leaf f g.nodes k.0 v k.1
+    | inl k ↦ tree-value solves.stands.graph f r (get-within g.nodes k.0 (Leaf v) k.1) (maps_all k.0 v k.1) ∙ value-leaf f g.nodes k.0 v k.1
     | inr free ↦ ap (apply_to f) (unmoved v free) ∙ apply-var f v
   ]
 
   least_of : (i : ℕ) (v w : SVar) → slice_get g.nodes i ≡ Some (Leaf v) → head_at g i ≡ Some (Leaf w) → (v ≡ w) ⊎ IsTrue (precedes (vars_read pairs) w v)
-  least_of i v w k q = elim (solves.graph.least i v w k q) [
+  least_of i v w k q = elim (solves.stands.graph.least i v w k q) [
     | inl p ↦ inl (leaf-inj v w (sym k ∙ ap (slice_get g.nodes) (sym p) ∙ q))
-    | inr p ↦ inr (before_precedes (vars_read pairs) g solves.ordered (class_at g.class i) i w v q k p)
+    | inr p ↦ inr (before_precedes (vars_read pairs) g solves.stands.ordered (class_at g.class i) i w v q k p)
   ]
 
   least_grown : (i : ℕ) (v w : SVar) (t : Sort) → slice_get g.nodes i ≡ Some (Leaf v) → Grows g i t → t ≡ Var w → (v ≡ w) ⊎ IsTrue (precedes (vars_read pairs) w v)
@@ -178,9 +178,9 @@ module _ (g : Graph) (pairs : List (Sort × Sort)) (solves : Solves g pairs) (s 
 
   pub least_unifier : IsLeastUnifier s pairs
   least_unifier = record {
-    unifies = solves.unifies (image s) respected;
+    unifies = solves.stands.unifies (image s) respected;
     idempotent = absorbs (image s) respected;
-    most_general = λ f u. (f, λ v. sym (absorbs f (solves.respects f u) v));
+    most_general = λ f u. (f, λ v. sym (absorbs f (solves.stands.respects f u) v));
     least = λ v w e. elim (find_leaf g.nodes v) [
       | inl k ↦ least_grown k.0 v w (image s v) k.1 (maps_all k.0 v k.1) e
       | inr free ↦ inl (Var-inj v w (sym (unmoved v free) ∙ e))
@@ -201,5 +201,5 @@ module _ (g : Graph) (pairs : List (Sort × Sort)) (solves : Solves g pairs) (s 
 
 pub has_unifier : (g : Graph) (pairs : List (Sort × Sort)) → Solves g pairs → HasUnifier pairs
 has_unifier g pairs solves =
-    let s = solution_there g solves.graph solves.trees in
+    let s = solution_there g solves.stands.graph solves.trees in
     (image s.0, (least_unifier g pairs solves s.0 s.1).unifies)

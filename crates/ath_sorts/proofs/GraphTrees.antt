@@ -2,8 +2,8 @@
 use Rattle.std.proofs.Common.{◌≡◌, ℕ, zero, suc, ◌<◌, List, [], ◌∷◌, length, map, slice_get, Option, Some, refl, sym, ◌∙◌, ap, subst, arith}
 use Rattle.std.specs.List.{AllByRecursion}
 use Rattle.ath_sorts.specs.declared.graph.Graph.{Graph}
-use Rattle.ath_sorts.specs.declared.graph.Node.{Node}
-use Rattle.ath_sorts.specs.declared.graph.Node.TheVariants.{Leaf, Branch}
+use Rattle.ath_sorts.specs.declared.nodes.Node.{Node}
+use Rattle.ath_sorts.specs.declared.nodes.Node.TheVariants.{Leaf, Branch}
 use Rattle.ath_sorts.specs.declared.sorts.SVar.{SVar}
 use Rattle.ath_sorts.specs.declared.sorts.Sort.{Sort, Var, Con}
 use Rattle.ath_sorts.specs.declared.sorts.Sym.{Sym}

@@ -1,8 +1,8 @@
 -- The sorts of nodes.
 use Rattle.std.proofs.Common.{◌≡◌, ℕ, suc, ◌+◌, ◌<◌, List, [], ◌∷◌, ◌++◌, length, map, take, drop, slice_get, Some, unwrap_or, refl, sym, ◌∙◌, ap, arith, append_assoc}
 use Rattle.std.specs.List.{AllByRecursion}
-use Rattle.ath_sorts.specs.declared.graph.Node.{Node}
-use Rattle.ath_sorts.specs.declared.graph.Node.TheVariants.{Leaf, Branch}
+use Rattle.ath_sorts.specs.declared.nodes.Node.{Node}
+use Rattle.ath_sorts.specs.declared.nodes.Node.TheVariants.{Leaf, Branch}
 use Rattle.ath_sorts.specs.declared.sorts.SVar.{SVar}
 use Rattle.ath_sorts.specs.declared.sorts.Sort.{Sort, Con}
 use Rattle.ath_sorts.specs.declared.sorts.Sym.{Sym}

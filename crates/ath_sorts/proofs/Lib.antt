@@ -9,7 +9,10 @@ pub mod GraphValues
 pub mod GraphTrees
 pub mod GraphCycles
 pub mod GraphJoins
-pub mod GraphFindings
+pub mod GraphUnions
+pub mod Partitions
+pub mod PartitionJoins
+pub mod NodePlaces
 pub mod SameSorts
 pub mod GraphGrowth
 pub mod GraphSizes

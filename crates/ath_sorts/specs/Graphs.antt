@@ -1,11 +1,9 @@
 -- What the graph of unification stands for.
-use Rattle.std.specs.Prelude.{◌≡◌, ℕ, suc, ◌+◌, ◌<◌, ◌⊎◌, Bool, true, false, ◌==◌, nat_lt, IsTrue, List, [], ◌∷◌, ◌++◌, map, sum, length, slice_get, Option, Some, None, unwrap_or, if◌then◌else◌}
-use Rattle.std.specs.List.{AllByRecursion, list_all, list_any}
-use Rattle.ath_sorts.specs.declared.graph.Finding.{Finding}
-use Rattle.ath_sorts.specs.declared.graph.Finding.TheVariants.{Closed, Clash, Apart}
+use Rattle.std.specs.Prelude.{◌≡◌, ℕ, suc, ◌+◌, ◌*◌, ◌<◌, ◌⊎◌, Bool, true, false, ◌==◌, nat_lt, IsTrue, List, [], ◌∷◌, ◌++◌, map, sum, length, slice_get, Option, Some, None, unwrap_or, if◌then◌else◌}
+use Rattle.std.specs.List.{AllByRecursion, list_all, list_any, zip}
 use Rattle.ath_sorts.specs.declared.graph.Graph.{Graph}
-use Rattle.ath_sorts.specs.declared.graph.Node.{Node}
-use Rattle.ath_sorts.specs.declared.graph.Node.TheVariants.{Leaf, Branch}
+use Rattle.ath_sorts.specs.declared.nodes.Node.{Node}
+use Rattle.ath_sorts.specs.declared.nodes.Node.TheVariants.{Leaf, Branch}
 use Rattle.ath_sorts.specs.declared.sorts.SVar.{SVar}
 use Rattle.ath_sorts.specs.declared.sorts.SVar.TheVariants.{Written, Made}
 use Rattle.ath_sorts.specs.declared.sorts.Sort.{Sort, Var, Con}
@@ -14,10 +12,8 @@ use Rattle.ath_sorts.specs.Limits.{is_small}
 use Rattle.ath_sorts.specs.Sorts.{same_svar, image, apply_to}
 use Rattle.ath_sorts.specs.Substitutions.{entry_of}
 use Rattle.ath_sorts.specs.Unifiers.{Unifies, HasUnifier, MovesAll, comes_first, joined, vars_of, vars_read}
-
--- the name of a node's class; a node that isn't there is its own
-abbrev pub class_at : List ℕ → ℕ → ℕ
-class_at class i = unwrap_or (slice_get class i) i
+pub use Rattle.ath_sorts.specs.Partitions.{class_at, rename}
+pub use Rattle.ath_sorts.specs.Places.{LeafFree}
 
 -- the node that names the class of a node
 abbrev pub head_at : Graph → ℕ → Option Node
@@ -56,9 +52,6 @@ names_class (Some (Leaf v)) i (Some (Branch d ks)) j = false
 names_class (Some (Leaf v)) i None j = false
 names_class (Some (Branch c js)) i n j = true
 names_class None i n j = true
-
-abbrev pub rename : ℕ → ℕ → ℕ → ℕ
-rename old new c = if c == old then new else c
 
 -- the classes of a and b joined
 abbrev pub join_names : List Node → List ℕ → ℕ → ℕ → List ℕ
@@ -113,10 +106,6 @@ IsNoLeaf (Some (Leaf v)) = ⊥
 IsNoLeaf (Some (Branch c js)) = Unit {0}
 IsNoLeaf None = Unit {0}
 
--- no node is the variable's
-abbrev pub LeafFree : List Node → SVar → Type 0
-LeafFree nodes v = (i : ℕ) → slice_get nodes i ≡ Some (Leaf v) → ⊥
-
 -- the variables of the graph are those that were read, in that order
 pub record IsOrdered (read : List SVar) (g : Graph) : Type 0 where
   pub first : (i j : ℕ) (u w : SVar) → i < j → slice_get g.nodes i ≡ Some (Leaf u) → slice_get g.nodes j ≡ Some (Leaf w) → IsTrue (comes_first read u w)
@@ -142,42 +131,78 @@ pub record AddsSorts (old new : Graph) (sorts : List Sort) (is : List ℕ) : Typ
   pub within : AllByRecursion (λ i. i < length new.nodes) is
   pub are_values : (f : SVar → Sort) → map (value f new.nodes) is ≡ map (apply_to f) sorts
 
--- the same nodes, of which classes were joined that every f has to make equal
-pub record Refines (old new : Graph) : Type 0 where
+-- whether i and j are a pair that waits
+abbrev pub Waits : ℕ → ℕ → List (ℕ × ℕ) → Type 0
+Waits i j [] = ⊥
+Waits i j (p ∷ waiting) = ((i ≡ p.0) × (j ≡ p.1)) ⊎ Waits i j waiting
+
+-- of one class, once the classes of the pairs that wait are joined
+pub data Linked (class : List ℕ) (waiting : List (ℕ × ℕ)) : ℕ → ℕ → Type 0 where
+  same : {i j : ℕ} → class_at class i ≡ class_at class j → Linked class waiting i j
+  waits : {i j : ℕ} → Waits i j waiting → Linked class waiting i j
+  turned : {i j : ℕ} → Linked class waiting i j → Linked class waiting j i
+  through : {i k : ℕ} (j : ℕ) → Linked class waiting i j → Linked class waiting j k → Linked class waiting i k
+
+abbrev pub AreLinked : List ℕ → List (ℕ × ℕ) → List ℕ → List ℕ → Type 0
+AreLinked class waiting js ks = (length js ≡ length ks) × AllByRecursion (λ p. Linked class waiting p.0 p.1) (zip js ks)
+
+abbrev pub WillAgreeAt : Graph → List (ℕ × ℕ) → ℕ → Type 0
+WillAgreeAt g waiting i = (c d : Sym) (js ks : List ℕ) → slice_get g.nodes i ≡ Some (Branch c js) → head_at g i ≡ Some (Branch d ks) → (c.0 ≡ d.0) × AreLinked g.class waiting js ks
+
+abbrev pub AreThere : List Node → List (ℕ × ℕ) → Type 0
+AreThere nodes = AllByRecursion (λ p. (p.0 < length nodes) × (p.1 < length nodes))
+
+-- f makes the sorts of each pair equal
+abbrev pub AreEqual : (SVar → Sort) → List Node → List (ℕ × ℕ) → Type 0
+AreEqual f nodes = AllByRecursion (λ p. value f nodes p.0 ≡ value f nodes p.1)
+
+-- the same nodes, of which those classes are joined, or their nodes wait, that every f has to make equal which makes a and b equal
+pub record Unites (old new : Graph) (waiting : List (ℕ × ℕ)) (a b : ℕ) : Type 0 where
   pub nodes : new.nodes ≡ old.nodes
   pub graph : IsGraph new
-  pub respects : (f : SVar → Sort) → Respects f old → Respects f new
-  pub respected : (f : SVar → Sort) → Respects f new → Respects f old
+  pub closed : (i : ℕ) → i < length new.nodes → WillAgreeAt new waiting i
+  pub there : AreThere new.nodes waiting
+  pub respects : (f : SVar → Sort) → Respects f old → value f old.nodes a ≡ value f old.nodes b → Respects f new × AreEqual f new.nodes waiting
+  pub respected : (f : SVar → Sort) → Respects f new → AreEqual f new.nodes waiting → Respects f old × (value f old.nodes a ≡ value f old.nodes b)
 
-abbrev pub MatchFinding : Graph → Finding → Type 0
-MatchFinding g Closed = IsClosed g
-MatchFinding g Clash = (f : SVar → Sort) → Respects f g → ⊥
-MatchFinding g (Apart a b) = (a < length g.nodes) × (b < length g.nodes) × (class_at g.class a ≡ class_at g.class b → ⊥) × ((f : SVar → Sort) → Respects f g → value f g.nodes a ≡ value f g.nodes b)
+-- no f makes them equal
+abbrev pub NoneUnites : Graph → ℕ → ℕ → Type 0
+NoneUnites g a b = (f : SVar → Sort) → Respects f g → value f g.nodes a ≡ value f g.nodes b → ⊥
 
-abbrev pub MatchFindingAt : Graph → ℕ → Finding → Type 0
-MatchFindingAt g i Closed = AgreesAt g i
-MatchFindingAt g i Clash = (f : SVar → Sort) → Respects f g → ⊥
-MatchFindingAt g i (Apart a b) = (a < length g.nodes) × (b < length g.nodes) × (class_at g.class a ≡ class_at g.class b → ⊥) × ((f : SVar → Sort) → Respects f g → value f g.nodes a ≡ value f g.nodes b)
-
--- whether x and y stand at one place of the two lists
-abbrev pub AreBeside : ℕ → ℕ → List ℕ → List ℕ → Type 0
-AreBeside x y [] ys = ⊥
-AreBeside x y (a ∷ xs) [] = ⊥
-AreBeside x y (a ∷ xs) (b ∷ ys) = ((x ≡ a) × (y ≡ b)) ⊎ AreBeside x y xs ys
-
-abbrev pub MatchApart : List ℕ → List ℕ → List ℕ → Finding → Type 0
-MatchApart class xs ys Closed = map (class_at class) xs ≡ map (class_at class) ys
-MatchApart class xs ys Clash = ⊥
-MatchApart class xs ys (Apart a b) = AreBeside a b xs ys × (class_at class a ≡ class_at class b → ⊥)
-
-abbrev pub MatchClosed : Graph → Graph → Bool → Type 0
-MatchClosed old new true = Refines old new × IsClosed new
-MatchClosed old new false = (f : SVar → Sort) → Respects f old → ⊥
+abbrev pub MatchUnited : Graph → Graph → ℕ → ℕ → Bool → Type 0
+MatchUnited old new a b true = Unites old new [] a b
+MatchUnited old new a b false = NoneUnites old a b
 
 -- the number of classes, of nodes from number i on
 abbrev pub classes : ℕ → List ℕ → ℕ
 classes i [] = 0
 classes i (c ∷ cs) = (if c == i then 1 else 0) + classes (suc i) cs
+
+abbrev pub width : Node → ℕ
+width (Leaf v) = 0
+width (Branch c js) = length js
+
+-- a bound on the joins that are left
+abbrev pub joins_left : Graph → List (ℕ × ℕ) → ℕ
+joins_left g waiting = classes 0 g.class * (sum (map width g.nodes) + 1) + length waiting
+
+-- the last pair that waited is done, and those wait that follow from it
+pub record Joins (old : Graph) (before : List (ℕ × ℕ)) (new : Graph) (after : List (ℕ × ℕ)) (a b : ℕ) : Type 0 where
+  pub unites : (first : Graph) (c d : ℕ) → Unites first old (before ++ (a, b) ∷ []) c d → Unites first new after c d
+  pub fewer : joins_left new after < joins_left old (before ++ (a, b) ∷ [])
+
+abbrev pub MatchJoined : Graph → List (ℕ × ℕ) → Graph → List (ℕ × ℕ) → ℕ → ℕ → Bool → Type 0
+MatchJoined old before new after a b true = Joins old before new after a b
+MatchJoined old before new after a b false = NoneUnites old a b
+
+-- the arguments of two nodes wait in pairs, or their constructors clash
+abbrev pub MatchArguments : List (ℕ × ℕ) → List (ℕ × ℕ) → Option Node → Option Node → Bool → Type 0
+MatchArguments before after (Some (Branch c xs)) (Some (Branch d ys)) true = (c.0 ≡ d.0) × ((length xs ≡ length ys) × (after ≡ before ++ zip xs ys))
+MatchArguments before after (Some (Branch c xs)) (Some (Branch d ys)) false = c.0 ≡ d.0 → length xs ≡ length ys → ⊥
+MatchArguments before after (Some (Branch c xs)) (Some (Leaf v)) ok = (ok ≡ true) × (after ≡ before)
+MatchArguments before after (Some (Branch c xs)) None ok = (ok ≡ true) × (after ≡ before)
+MatchArguments before after (Some (Leaf v)) n ok = (ok ≡ true) × (after ≡ before)
+MatchArguments before after None n ok = (ok ≡ true) × (after ≡ before)
 
 abbrev pub is_marked : List Bool → ℕ → Bool
 is_marked marks i = unwrap_or (slice_get marks i) false
@@ -210,17 +235,20 @@ abbrev pub MatchAcyclic : Graph → Bool → Type 0
 MatchAcyclic g true = HasTrees g
 MatchAcyclic g false = (f : SVar → Sort) → Respects f g → ⊥
 
--- the graph stands for these pairs
-pub record Solves (g : Graph) (pairs : List (Sort × Sort)) : Type 0 where
+-- the graph stands for these pairs, if its classes stand for trees
+pub record Stands (g : Graph) (pairs : List (Sort × Sort)) : Type 0 where
   pub graph : IsGraph g
   pub closed : IsClosed g
-  pub trees : HasTrees g
   pub respects : (f : SVar → Sort) → Unifies f pairs → Respects f g
   pub unifies : (f : SVar → Sort) → Respects f g → Unifies f pairs
   pub ordered : IsOrdered (vars_read pairs) g
 
+pub record Solves (g : Graph) (pairs : List (Sort × Sort)) : Type 0 where
+  pub stands : Stands g pairs
+  pub trees : HasTrees g
+
 abbrev pub MatchEquated : Graph → List (Sort × Sort) → Bool → Type 0
-MatchEquated g pairs true = Solves g pairs
+MatchEquated g pairs true = Stands g pairs
 MatchEquated g pairs false = HasUnifier pairs → ⊥
 
 -- the map sends each variable among the first n nodes to its tree

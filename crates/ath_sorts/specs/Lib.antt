@@ -8,5 +8,7 @@ pub mod Substitutions
 pub mod Unifiers
 pub mod Instances
 pub mod Matching
+pub mod Places
+pub mod Partitions
 pub mod Graphs
 pub mod Laws

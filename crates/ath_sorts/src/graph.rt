@@ -5,180 +5,138 @@
 // else by the node of its least variable.
 
 ghost use Rattle.std.specs.Prelude.{◌≡◌, ℕ, ◌+◌, ◌-◌, ◌<◌, ◌≤◌, ◌++◌, ◌∷◌, [], IsTrue, IfOk, OnOk, List, length, map, replicate, slice_get, SomeIff, MatchBool, MatchOption, false, ◌↔◌, Option, Some, None};
-ghost use Rattle.std.specs.List.{list_all};
+ghost use Rattle.std.specs.List.{list_all, zip};
 ghost use Rattle.ath_sorts.specs.Sorts.{size_of, depth_of};
 ghost use Rattle.ath_sorts.specs.Limits.{is_small};
-ghost use Rattle.ath_sorts.specs.Graphs.{AddsSort, AgreesAt, Grows, HasLargeImage, HasSmallImages, HasTrees, IsGraph, IsNoBranch, IsNoLeaf, IsSolution, IsStuck, IsStuckAt, MarksTrees, MatchAcyclic, MatchApart, MatchClosed, MatchEquated, MatchFinding, MatchFindingAt, LeafFree, Solves, class_at, is_marked, is_ready, join_class, names_class, rename, stands_before, unmarked};
+ghost use Rattle.ath_sorts.specs.Graphs.{AddsSort, Grows, HasLargeImage, HasSmallImages, HasTrees, IsClosed, IsGraph, IsNoBranch, IsNoLeaf, IsSolution, IsStuck, IsStuckAt, MarksTrees, MatchAcyclic, MatchArguments, MatchEquated, MatchJoined, MatchUnited, Stands, class_at, is_marked, is_ready, names_class, stands_before, unmarked};
 ghost use Rattle.ath_sorts.specs.declared.sorts.Sort.{Sort};
 
 use crate::limits::{MOST_DEPTH, MOST_NODES};
+use crate::nodes::{Node, Nodes};
+use crate::partition::Partition;
 use crate::sorts::{SVar, Sort, Sym, is_same};
 use crate::substitution::SortSubst;
 use sqlite_items::Items;
 use std::alloc::{AllocError, Global};
 
-/// A place of a sort: a variable, or a constructor with the nodes of its arguments, which stand before it.
-#[derive(Debug, Drop)]
-pub enum Node {
-    Leaf(SVar),
-    Branch(Sym, Items<usize>),
-}
-
-#[derive(Debug, Drop)]
+#[derive(Drop)]
 pub struct Graph {
-    nodes: Items<Node>,
-    class: Items<usize>,
-}
-
-/// What is found where classes are compared with the arguments of their nodes.
-#[derive(Clone, Copy, Debug)]
-pub enum Finding {
-    Closed,
-    Clash,
-    Apart(usize, usize),
+    nodes: Nodes,
+    class: Partition,
 }
 
 impl Graph {
     pub fn new(alloc: Global) -> Graph
-        ensures { Solves result [] }
+        ensures { Stands result [] }
     {
         Graph {
-            nodes: Items::new(alloc),
-            class: Items::new(alloc),
+            nodes: Nodes::new(alloc),
+            class: Partition::new(alloc),
         }
     }
 
-    /// Makes the sides of a pair equal; false where they can't be.
+    /// Makes the sides of a pair equal; false where their constructors, or those of pairs before it, clash.
     pub fn equate(&mut self, alloc: Global, left: &Sort, right: &Sort) -> Result<bool, AllocError>
-        requires { IsGraph self.old }
-        ensures { IfOk result (λ ok. (pairs : List (Sort × Sort)) → Solves self.old pairs → MatchEquated self.new (pairs ++ (left.now, right.now) ∷ []) ok) }
+        requires graph { IsGraph self.old }
+        requires closed { IsClosed self.old }
+        ensures { IfOk result (λ ok. (pairs : List (Sort × Sort)) → Stands self.old pairs → MatchEquated self.new (pairs ++ (left.now, right.now) ∷ []) ok) }
     {
         if is_same(left, right) {
             return Ok(true);
         }
         let left = self.add(alloc, left)?;
         let right = self.add(alloc, right)?;
-        self.join(left, right);
-        if !self.close() {
-            return Ok(false);
-        }
-        let acyclic = self.is_acyclic(alloc)?;
-        Ok(acyclic)
+        let ok = self.unite(alloc, left, right)?;
+        Ok(ok)
     }
 
     /// Adds the nodes of a sort, and answers its own.
     fn add(&mut self, alloc: Global, sort: &Sort) -> Result<usize, AllocError>
+        requires { IsGraph self.old }
         ensures { IfOk result (AddsSort self.old self.new sort.now) }
     {
         match sort {
-            Sort::Var(v) => self.add_variable(*v),
+            Sort::Var(v) => self.add_variable(alloc, *v),
             Sort::Con(name, args) => {
                 let mut children = Items::new(alloc);
                 for arg in args.as_slice() {
                     let child = self.add(alloc, arg)?;
                     children.push(child)?;
                 }
-                let added = self.push(Node::Branch(*name, children))?;
+                self.nodes.push_branch(*name, children)?;
+                let added = self.class.push(alloc)?;
                 Ok(added)
             }
         }
     }
 
-    fn add_variable(&mut self, v: SVar) -> Result<usize, AllocError>
+    fn add_variable(&mut self, alloc: Global, v: SVar) -> Result<usize, AllocError>
+        requires { IsGraph self.old }
         ensures { IfOk result (AddsSort self.old self.new (Sort.Var v)) }
     {
-        if let Some(at) = leaf_of(self.nodes.as_slice(), v) {
+        if let Some(at) = self.nodes.leaf_of(v) {
             return Ok(at);
         }
-        let added = self.push(Node::Leaf(v))?;
+        self.nodes.push_leaf(v)?;
+        let added = self.class.push(alloc)?;
         Ok(added)
-    }
-
-    /// Adds a node as a class of its own.
-    fn push(&mut self, node: Node) -> Result<usize, AllocError>
-        ensures at { IfOk result (λ at. at ≡ length self.old.nodes) }
-        ensures nodes { IfOk result (λ at. self.new.nodes ≡ self.old.nodes ++ node ∷ []) }
-        ensures class { IfOk result (λ at. self.new.class ≡ self.old.class ++ at ∷ []) }
-    {
-        let at = self.nodes.len();
-        self.nodes.push(node)?;
-        self.class.push(at)?;
-        Ok(at)
     }
 
     fn class_of(&self, at: usize) -> usize
         ensures { result ≡ class_at self.now.class at }
     {
-        class_at(self.class.as_slice(), at)
+        self.class.class_of(at)
     }
 
-    /// Makes the classes of two nodes one.
-    fn join(&mut self, a: usize, b: usize)
-        ensures nodes { self.new.nodes ≡ self.old.nodes }
-        ensures class { self.new.class ≡ join_class self.old.nodes self.old.class a b }
+    /// Makes the classes of two nodes one, and those of arguments that this makes equal; false where constructors clash.
+    fn unite(&mut self, alloc: Global, a: usize, b: usize) -> Result<bool, AllocError>
+        requires graph { IsGraph self.old }
+        requires closed { IsClosed self.old }
+        requires a_there { a < length self.old.nodes }
+        requires b_there { b < length self.old.nodes }
+        ensures { IfOk result (MatchUnited self.old self.new a b) }
+    {
+        let mut waiting = Items::new(alloc);
+        waiting.push((a, b))?;
+        while let Some((left, right)) = waiting.pop() {
+            if !self.join(alloc, left, right, &mut waiting)? {
+                return Ok(false);
+            }
+        }
+        Ok(true)
+    }
+
+    /// Makes the classes of two nodes one, and lets their arguments wait for the same; false where constructors clash.
+    fn join(
+        &mut self,
+        alloc: Global,
+        a: usize,
+        b: usize,
+        waiting: &mut Items<(usize, usize)>,
+    ) -> Result<bool, AllocError>
+        requires graph { IsGraph self.old }
+        requires a_there { a < length self.old.nodes }
+        requires b_there { b < length self.old.nodes }
+        ensures { IfOk result (MatchJoined self.old waiting.old self.new waiting.new a b) }
     {
         let a = self.class_of(a);
         let b = self.class_of(b);
         if a == b {
-            return;
+            return Ok(true);
+        }
+        if !add_arguments(self.nodes.as_slice(), a, b, waiting)? {
+            return Ok(false);
         }
         if names_class(self.nodes.as_slice(), a, b) {
-            replace(&mut self.class, b, a);
+            self.class.join(alloc, a, b)?;
         } else {
-            replace(&mut self.class, a, b);
+            self.class.join(alloc, b, a)?;
         }
-    }
-
-    /// Joins classes until nodes of one class have arguments of one class; false where two constructors clash.
-    fn close(&mut self) -> bool
-        requires { IsGraph self.old }
-        ensures { MatchClosed self.old self.new result }
-    {
-        'joins: loop {
-            match self.finding() {
-                Finding::Closed => return true,
-                Finding::Clash => return false,
-                Finding::Apart(a, b) => self.join(a, b),
-            }
-        }
-    }
-
-    fn finding(&self) -> Finding
-        requires { IsGraph self.now }
-        ensures { MatchFinding self.now result }
-    {
-        for at in 0..self.nodes.len() {
-            match self.finding_at(at) {
-                Finding::Closed => {}
-                found => return found,
-            }
-        }
-        Finding::Closed
-    }
-
-    fn finding_at(&self, at: usize) -> Finding
-        requires graph { IsGraph self.now }
-        requires within { at < length self.now.nodes }
-        ensures { MatchFindingAt self.now at result }
-    {
-        let nodes = self.nodes.as_slice();
-        let Some((a, xs)) = branch_at(nodes, at) else {
-            return Finding::Closed;
-        };
-        let Some((b, ys)) = branch_at(nodes, self.class_of(at)) else {
-            return Finding::Closed;
-        };
-        if a.0 != b.0 {
-            return Finding::Clash;
-        }
-        if xs.len() != ys.len() {
-            return Finding::Clash;
-        }
-        first_apart(self.class.as_slice(), xs, ys)
+        Ok(true)
     }
 
     /// Whether each class stands for a tree.
-    fn is_acyclic(&self, alloc: Global) -> Result<bool, AllocError>
+    pub fn is_acyclic(&self, alloc: Global) -> Result<bool, AllocError>
         requires { IsGraph self.now }
         ensures { IfOk result (MatchAcyclic self.now) }
     {
@@ -320,24 +278,40 @@ impl Graph {
     }
 }
 
-fn leaf_of(nodes: &[Node], v: SVar) -> Option<usize>
-    ensures { MatchOption result (LeafFree nodes.now v) (λ at. slice_get nodes.now at ≡ Some (Node.Leaf v)) }
+/// Adds the pairs of arguments of two nodes, if both have a constructor; false where the constructors clash.
+fn add_arguments(
+    nodes: &[Node],
+    a: usize,
+    b: usize,
+    waiting: &mut Items<(usize, usize)>,
+) -> Result<bool, AllocError>
+    ensures { IfOk result (MatchArguments waiting.old waiting.new (slice_get nodes.now a) (slice_get nodes.now b)) }
 {
-    for at in 0..nodes.len() {
-        if is_leaf(&nodes[at], v) {
-            return Some(at);
-        }
+    let Some((c, xs)) = branch_at(nodes, a) else {
+        return Ok(true);
+    };
+    let Some((d, ys)) = branch_at(nodes, b) else {
+        return Ok(true);
+    };
+    if c.0 != d.0 || xs.len() != ys.len() {
+        return Ok(false);
     }
-    None
+    add_pairs(xs, ys, waiting)?;
+    Ok(true)
 }
 
-fn is_leaf(node: &Node, v: SVar) -> bool
-    ensures { IsTrue result ↔ (node.now ≡ Node.Leaf v) }
+fn add_pairs(
+    xs: &[usize],
+    ys: &[usize],
+    waiting: &mut Items<(usize, usize)>,
+) -> Result<(), AllocError>
+    requires { length xs.now ≡ length ys.now }
+    ensures { OnOk result (waiting.new ≡ waiting.old ++ zip xs.now ys.now) }
 {
-    match node {
-        Node::Leaf(w) => w.is_same(v),
-        Node::Branch(_, _) => false,
+    for i in 0..xs.len() {
+        waiting.push((xs[i], ys[i]))?;
     }
+    Ok(())
 }
 
 /// The constructor and the arguments at a node, if it has one.
@@ -362,15 +336,6 @@ fn leaf_at(nodes: &[Node], at: usize) -> Option<SVar>
     }
 }
 
-fn class_at(class: &[usize], at: usize) -> usize
-    ensures { result ≡ class_at class.now at }
-{
-    match class.get(at) {
-        Some(name) => *name,
-        None => at,
-    }
-}
-
 /// Whether a rather than b is to name the class that they are in.
 fn names_class(nodes: &[Node], a: usize, b: usize) -> bool
     ensures { result ≡ names_class (slice_get nodes.now a) a (slice_get nodes.now b) b }
@@ -391,33 +356,6 @@ fn stands_before(v: SVar, at_v: usize, w: SVar, at_w: usize) -> bool
         (SVar::Made(_), SVar::Written(_)) => false,
         (SVar::Made(m), SVar::Made(n)) => m < n,
     }
-}
-
-fn replace(class: &mut Items<usize>, old: usize, new: usize)
-    ensures { class.new ≡ map (rename old new) class.old }
-{
-    for at in 0..class.len() {
-        let name = class_at(class.as_slice(), at);
-        class.set(at, rename(old, new, name));
-    }
-}
-
-fn rename(old: usize, new: usize, name: usize) -> usize
-    ensures { result ≡ rename old new name }
-{
-    if name == old { new } else { name }
-}
-
-fn first_apart(class: &[usize], xs: &[usize], ys: &[usize]) -> Finding
-    requires { length xs.now ≡ length ys.now }
-    ensures { MatchApart class.now xs.now ys.now result }
-{
-    for i in 0..xs.len() {
-        if class_at(class, xs[i]) != class_at(class, ys[i]) {
-            return Finding::Apart(xs[i], ys[i]);
-        }
-    }
-    Finding::Closed
 }
 
 fn are_all_marked(children: &[usize], grown: &[bool]) -> bool

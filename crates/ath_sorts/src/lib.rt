@@ -5,6 +5,8 @@ mod graph;
 pub mod laws;
 pub mod limits;
 pub mod matching;
+mod nodes;
+mod partition;
 pub mod signature;
 pub mod sorts;
 pub mod substitution;

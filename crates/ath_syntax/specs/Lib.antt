@@ -1,5 +1,6 @@
 pub mod Fits
 pub mod Nodes
+pub mod Proper
 pub mod Size
 pub mod Stands
 pub mod Tree

@@ -15,23 +15,24 @@ use Rattle.ath_sorts.specs.Unifiers.{Unifies}
 use Rattle.ath_sorts.proofs.Bools.{and_parts, same_num}
 use Rattle.ath_sorts.proofs.Gets.{some-inj}
 use Rattle.ath_sorts.proofs.ValidityLaws.{first_none}
-use Rattle.ath_terms.specs.declared.node.TermId.{TermId}
+use Rattle.ath_trees.specs.declared.node.TermId.{TermId}
 use Rattle.ath_terms.specs.declared.measure.BuildError.{BuildError}
 use Rattle.ath_terms.specs.declared.measure.BuildError.TheVariants.{SortClash, ArgCount, NotBoolean, TooLarge, TooDeep, SortTooLarge, Memory}
 use Rattle.ath_terms.specs.declared.node.TermNode.TheVariants.{App}
 use Rattle.ath_terms.specs.Lists.{AreTerms}
 use Rattle.ath_terms.specs.Nodes.{term_tree}
 use Rattle.ath_terms.proofs.StepLaws.{terms-are, map-through}
-use Rattle.ath_terms.specs.Measure.{terms_size, terms_depth}
-use Rattle.ath_terms.specs.Tree.{Term, Terms, app, none, more, listed}
+use Rattle.ath_trees.specs.Measure.{terms_size, terms_depth}
+use Rattle.ath_trees.specs.Tree.{Term, Terms, app, none, more, listed}
 use Rattle.ath_terms.specs.Trees.{Trees, term_at, sort_at, IsTermOf}
-use Rattle.ath_terms.specs.SortsIn.{IsSortedIn, result_sort, sort_in, have_small_sorts}
-use Rattle.ath_terms.specs.Variables.{with_terms}
-use Rattle.ath_terms.specs.Under.{term_under, terms_under}
-use Rattle.ath_terms.specs.WellSorted.{is_valid_sort, HasSort, app_has, HaveSorts, none_has, more_has}
+use Rattle.ath_trees.specs.SortsIn.{result_sort, sort_in, have_small_sorts}
+use Rattle.ath_terms.specs.SortsIn.{IsSortedIn}
+use Rattle.ath_trees.specs.Variables.{with_terms}
+use Rattle.ath_trees.specs.Under.{term_under, terms_under}
+use Rattle.ath_trees.specs.WellSorted.{is_valid_sort, HasSort, app_has, HaveSorts, none_has, more_has}
 use Rattle.ath_terms.specs.Construction.{made_sorts, variable_pairs, Measure, term_measure, app_plan, MatchSolved, MatchMeasured, MatchRefused, MatchTerm, MatchApp}
-use Rattle.ath_terms.proofs.ValidSorts.{both_true, valid-var, valid_under, valid_all_under, use_valid, at_sorts_under, all_at_sorts_under, symbol_good, IsGood}
-use Rattle.ath_terms.proofs.UnderLaws.{sort_in-is, have_sorts-under, listed-under, size-under, depth-under}
+use Rattle.ath_trees.proofs.ValidSorts.{both_true, valid-var, valid_under, valid_all_under, use_valid, at_sorts_under, all_at_sorts_under, symbol_good, IsGood}
+use Rattle.ath_trees.proofs.UnderLaws.{sort_in-is, have_sorts-under, listed-under, size-under, depth-under}
 use Rattle.ath_terms.proofs.WithinLaws.{all-map}
 use Rattle.ath_terms.proofs.UnifierValid.{AreValid, unifier_valid}
 use Rattle.ath_terms.proofs.ListLaws.{made-length}

@@ -1,45 +1,54 @@
 -- The tree of a connective has its parts.
-use Rattle.std.proofs.Common.{◌≡◌, ℕ, ◌&&◌, Bool, true, false, List, [], ◌∷◌, length, map, refl, sym, ◌∙◌, ap, arith}
+use Rattle.std.proofs.Common.{◌≡◌, ℕ, ◌&&◌, Bool, true, false, List, [], ◌∷◌, length, map, Some, refl, sym, ◌∙◌, ap, arith}
 use Rattle.std.specs.List.{list_all}
 use Rattle.ath_sorts.specs.declared.sorts.SVar.{SVar}
 use Rattle.ath_sorts.specs.declared.sorts.Sort.{Sort}
 use Rattle.ath_sorts.specs.Signature.{Signature}
-use Rattle.ath_terms.specs.SortsIn.{sent_has_small_sorts}
-use Rattle.ath_terms.specs.Under.{sent_under}
-use Rattle.ath_terms.specs.declared.node.Conn.{Conn}
-use Rattle.ath_terms.specs.declared.node.Conn.TheVariants.{Not, And, Or, If, Iff}
-use Rattle.ath_terms.specs.declared.node.TermId.{TermId}
-use Rattle.ath_terms.specs.declared.node.SentId.{SentId}
+use Rattle.ath_trees.specs.SortsIn.{sent_has_small_sorts}
+use Rattle.ath_trees.specs.Under.{sent_under}
+use Rattle.ath_trees.specs.declared.node.Conn.{Conn}
+use Rattle.ath_trees.specs.declared.node.Binary.{Binary}
+use Rattle.ath_trees.specs.declared.node.Binary.TheVariants as binary
+use Rattle.ath_trees.specs.declared.node.Conn.TheVariants.{Not, And, Or, If, Iff}
+use Rattle.ath_trees.specs.declared.node.TermId.{TermId}
+use Rattle.ath_trees.specs.declared.node.SentId.{SentId}
 use Rattle.ath_terms.specs.declared.node.SentNode.{SentNode}
 use Rattle.ath_terms.specs.declared.node.SentNode.TheVariants as node
-use Rattle.ath_terms.specs.declared.node.Var.{Var}
-use Rattle.ath_terms.specs.Variables.{with_sent, with_sents}
-use Rattle.ath_terms.specs.Tree.{Term, Sent, atom, negated, joined}
+use Rattle.ath_trees.specs.declared.node.Var.{Var}
+use Rattle.ath_trees.specs.Variables.{with_sent, with_sents}
+use Rattle.ath_trees.specs.Tree.{Term, Sent, atom, negated, joined, conn_of}
 use Rattle.ath_terms.specs.Trees.{term_at, sent_at}
-use Rattle.ath_terms.specs.Nodes.{conn_tree, sent_tree, arity, IsSentBelow}
+use Rattle.ath_terms.specs.Nodes.{parts_tree, conn_tree, sent_tree, arity, IsSentBelow}
 
 data Parts : Conn → List Sent → Sent → Type 0 where
   one : {p : Sent} → Parts Not (p ∷ []) (negated p)
-  two : {c : Conn} {p q : Sent} → (c ≡ Not → ⊥) → Parts c (p ∷ q ∷ []) (joined c p q)
+  two : {c : Binary} {p q : Sent} → Parts (conn_of c) (p ∷ q ∷ []) (joined c p q)
 
-pair : (c : Conn) (ss : List Sent) → (c ≡ Not → ⊥) → ((p q : Sent) → conn_tree c (p ∷ q ∷ []) ≡ joined c p q) → length ss ≡ 2 → Parts c ss (conn_tree c ss)
-pair c [] n h e = absurd (omega arith)
-pair c (p ∷ []) n h e = absurd (omega arith)
-pair c (p ∷ q ∷ []) n h e = rw (h p q) (two n)
-pair c (p ∷ q ∷ r ∷ ss) n h e = absurd (omega arith)
+pair : (c : Binary) (ss : List Sent) → length ss ≡ 2 → Parts (conn_of c) ss (parts_tree (Some c) ss)
+pair c [] e = absurd (omega arith)
+pair c (p ∷ []) e = absurd (omega arith)
+pair c (p ∷ q ∷ []) e = two
+pair c (p ∷ q ∷ r ∷ ss) e = absurd (omega arith)
 
 parts_of : (c : Conn) (ss : List Sent) → length ss ≡ arity c → Parts c ss (conn_tree c ss)
 parts_of Not [] e = absurd (omega arith)
 parts_of Not (p ∷ []) e = one
 parts_of Not (p ∷ q ∷ ss) e = absurd (omega arith)
-parts_of And ss e = pair And ss (λ d. cc) (λ p q. refl) e
-parts_of Or ss e = pair Or ss (λ d. cc) (λ p q. refl) e
-parts_of If ss e = pair If ss (λ d. cc) (λ p q. refl) e
-parts_of Iff ss e = pair Iff ss (λ d. cc) (λ p q. refl) e
+parts_of And ss e = pair binary.And ss e
+parts_of Or ss e = pair binary.Or ss e
+parts_of If ss e = pair binary.If ss e
+parts_of Iff ss e = pair binary.Iff ss e
+
+-- a connective of two parts
+pub pair_tree : (c : Binary) (x y : Sent) → joined c x y ≡ conn_tree (conn_of c) (x ∷ y ∷ [])
+pair_tree binary.And x y = refl
+pair_tree binary.Or x y = refl
+pair_tree binary.If x y = refl
+pair_tree binary.Iff x y = refl
 
 no_atom : {c : Conn} {ss : List Sent} {p : Sent} {t : Term} → Parts c ss p → p ≡ atom t → ⊥
 no_atom one e = cc
-no_atom (two n) e = cc
+no_atom two e = cc
 
 pub conn-not-atom : (c : Conn) (ss : List Sent) (t : Term) → length ss ≡ arity c → conn_tree c ss ≡ atom t → ⊥
 conn-not-atom c ss t l e = no_atom (parts_of c ss l) e
@@ -50,9 +59,9 @@ pub record SameConn (c d : Conn) (ss rs : List Sent) : Type 0 where
 
 same_parts : {c d : Conn} {ss rs : List Sent} {p q : Sent} → Parts c ss p → Parts d rs q → p ≡ q → SameConn c d ss rs
 same_parts one one e = record { conns = refl; parts = cc }
-same_parts one (two n) e = absurd (cc)
-same_parts (two n) one e = absurd (cc)
-same_parts (two n) (two m) e = record { conns = cc; parts = cc }
+same_parts one two e = absurd (cc)
+same_parts two one e = absurd (cc)
+same_parts (two {c} {p} {q}) (two {c = d} {p = r} {q = s}) e = record { conns = let k : c ≡ d = cc in ap conn_of k; parts = cc }
 
 pub conns-same : (c d : Conn) (ss rs : List Sent) → length ss ≡ arity c → length rs ≡ arity d → conn_tree c ss ≡ conn_tree d rs → SameConn c d ss rs
 conns-same c d ss rs l k e = same_parts (parts_of c ss l) (parts_of d rs k) e
@@ -63,7 +72,7 @@ length-map f (x ∷ xs) = let e = length-map f xs in omega arith
 
 vars_of_parts : (found : List Var) {c : Conn} {ss : List Sent} {p : Sent} → Parts c ss p → with_sent found p ≡ with_sents found ss
 vars_of_parts found one = refl
-vars_of_parts found (two n) = refl
+vars_of_parts found two = refl
 
 -- its free variables are those of its parts
 pub vars_of_conn : (found : List Var) (c : Conn) (ss : List Sent) (ids : List SentId) → length ids ≡ arity c → with_sent found (conn_tree c (map (λ i. sent_at ss i.0) ids)) ≡ with_sents found (map (λ i. sent_at ss i.0) ids)
@@ -71,14 +80,7 @@ vars_of_conn found c ss ids l = vars_of_parts found (parts_of c (map (λ i. sent
 
 under_parts : (f : SVar → Sort) {c : Conn} {ss : List Sent} {p : Sent} → Parts c ss p → sent_under f p ≡ conn_tree c (map (sent_under f) ss)
 under_parts f one = refl
-under_parts f (two {c} {p} {q} n) = pair_tree c n (sent_under f p) (sent_under f q)
-  where
-    pair_tree : (c : Conn) → (c ≡ Not → ⊥) → (x y : Sent) → joined c x y ≡ conn_tree c (x ∷ y ∷ [])
-    pair_tree Not m x y = absurd (m refl)
-    pair_tree And m x y = refl
-    pair_tree Or m x y = refl
-    pair_tree If m x y = refl
-    pair_tree Iff m x y = refl
+under_parts f (two {c} {p} {q}) = pair_tree c (sent_under f p) (sent_under f q)
 
 through : (f : SVar → Sort) (ss : List Sent) (ids : List SentId) → map (sent_under f) (map (λ i. sent_at ss i.0) ids) ≡ map (λ i. sent_under f (sent_at ss i.0)) ids
 through f ss [] = refl
@@ -94,7 +96,7 @@ small_parts sig f (one {p}) = sym (and-end (sent_has_small_sorts sig (sent_under
     and-end : (b : Bool) → (b && true) ≡ b
     and-end true = refl
     and-end false = refl
-small_parts sig f (two {c} {p} {q} n) = ap (λ b. sent_has_small_sorts sig (sent_under f p) && b) (sym (and-end (sent_has_small_sorts sig (sent_under f q))))
+small_parts sig f (two {c} {p} {q}) = ap (λ b. sent_has_small_sorts sig (sent_under f p) && b) (sym (and-end (sent_has_small_sorts sig (sent_under f q))))
   where
     and-end : (b : Bool) → (b && true) ≡ b
     and-end true = refl

@@ -7,19 +7,22 @@ use Rattle.ath_sorts.specs.declared.sorts.SVar.{SVar}
 use Rattle.ath_sorts.specs.declared.sorts.Sort.{Sort}
 use Rattle.ath_sorts.specs.Signature.{Signature}
 use Rattle.ath_sorts.specs.Sorts.{image}
-use Rattle.ath_terms.specs.declared.node.Conn.{Conn}
-use Rattle.ath_terms.specs.declared.node.Conn.TheVariants.{Not, And, Or, If, Iff}
-use Rattle.ath_terms.specs.declared.node.SentId.{SentId}
+use Rattle.ath_trees.specs.declared.node.Conn.{Conn}
+use Rattle.ath_trees.specs.declared.node.Binary.{Binary}
+use Rattle.ath_trees.specs.declared.node.Binary.TheVariants as binary
+use Rattle.ath_trees.specs.declared.node.Conn.TheVariants.{Not, And, Or, If, Iff}
+use Rattle.ath_trees.specs.declared.node.SentId.{SentId}
 use Rattle.ath_terms.specs.declared.measure.BuildError.{BuildError}
-use Rattle.ath_terms.specs.Measure.{sent_size, sent_depth}
-use Rattle.ath_terms.specs.Tree.{Sent}
+use Rattle.ath_trees.specs.Measure.{sent_size, sent_depth}
+use Rattle.ath_trees.specs.Tree.{Sent}
 use Rattle.ath_terms.specs.Trees.{Trees, sent_at, IsSent}
-use Rattle.ath_terms.specs.SortsIn.{IsSortedIn, sent_has_small_sorts}
-use Rattle.ath_terms.specs.Under.{sent_under}
-use Rattle.ath_terms.specs.Variables.{with_sents}
-use Rattle.ath_terms.specs.WellSorted.{is_valid_sort, AreWellSorted}
+use Rattle.ath_trees.specs.SortsIn.{sent_has_small_sorts}
+use Rattle.ath_terms.specs.SortsIn.{IsSortedIn}
+use Rattle.ath_trees.specs.Under.{sent_under}
+use Rattle.ath_trees.specs.Variables.{with_sents}
+use Rattle.ath_trees.specs.WellSorted.{is_valid_sort, AreWellSorted}
 use Rattle.ath_terms.specs.Construction.{takes, grouped, connected, connective_plan, variable_pairs, sent_measure, MatchSolved, MatchMeasured, MatchRefused, MatchSent}
-use Rattle.ath_terms.proofs.UnderLaws.{sent_size-under, sent_depth-under}
+use Rattle.ath_trees.proofs.UnderLaws.{sent_size-under, sent_depth-under}
 use Rattle.ath_terms.proofs.UnifierValid.{unifier_valid}
 use Rattle.ath_terms.proofs.ConstructionLaws.{measured-is, refused-solve, refused-measure, within-measure, sents_vars-valid, variable_pairs-valid}
 
@@ -48,7 +51,7 @@ and-end true = refl
 and-end false = refl
 
 module _ (sig : Signature) (f : SVar → Sort) (ss : List Sent) where
-  small-grouped : (c : Conn) (ids : List SentId) → 0 < length ids → list_all (λ i. sent_has_small_sorts sig (sent_under f (sent_at ss i.0))) ids ≡ sent_has_small_sorts sig (sent_under f (grouped c (map (λ i. sent_at ss i.0) ids)))
+  small-grouped : (c : Binary) (ids : List SentId) → 0 < length ids → list_all (λ i. sent_has_small_sorts sig (sent_under f (sent_at ss i.0))) ids ≡ sent_has_small_sorts sig (sent_under f (grouped c (map (λ i. sent_at ss i.0) ids)))
   small-grouped c [] h = absurd (omega arith)
   small-grouped c (x ∷ []) h = and-end (sent_has_small_sorts sig (sent_under f (sent_at ss x.0)))
   small-grouped c (x ∷ y ∷ ids) h = ap (λ b. sent_has_small_sorts sig (sent_under f (sent_at ss x.0)) && b) (small-grouped c (y ∷ ids) (omega arith))
@@ -60,10 +63,10 @@ module _ (sig : Signature) (f : SVar → Sort) (ss : List Sent) where
 
   pub small-connected : (c : Conn) (ids : List SentId) → takes c (length ids) ≡ true → list_all (λ i. sent_has_small_sorts sig (sent_under f (sent_at ss i.0))) ids ≡ sent_has_small_sorts sig (sent_under f (connected c (map (λ i. sent_at ss i.0) ids)))
   small-connected Not ids e = small-negated ids (one_of (length ids) e)
-  small-connected And ids e = small-grouped And ids (takes-some And (length ids) e)
-  small-connected Or ids e = small-grouped Or ids (takes-some Or (length ids) e)
-  small-connected If ids e = small-grouped If ids (takes-some If (length ids) e)
-  small-connected Iff ids e = small-grouped Iff ids (takes-some Iff (length ids) e)
+  small-connected And ids e = small-grouped binary.And ids (takes-some And (length ids) e)
+  small-connected Or ids e = small-grouped binary.Or ids (takes-some Or (length ids) e)
+  small-connected If ids e = small-grouped binary.If ids (takes-some If (length ids) e)
+  small-connected Iff ids e = small-grouped binary.Iff ids (takes-some Iff (length ids) e)
 
 pub connective-measured : (sig : Signature) (f : SVar → Sort) (p : Sent) (small : Bool) (a c : ℕ) (r : Result (Unit {0}) BuildError) → small ≡ sent_has_small_sorts sig (sent_under f p) → a ≡ sent_size p → c ≡ sent_depth p → MatchMeasured (record { small = small; nodes = a; levels = c }) r → MatchMeasured (sent_measure sig (sent_under f p)) r
 connective-measured sig f p small a c r e q v h =

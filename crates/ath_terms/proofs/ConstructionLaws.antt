@@ -10,15 +10,14 @@ use Rattle.ath_sorts.specs.declared.sorts.Sort.{Sort}
 use Rattle.ath_sorts.specs.Signature.{Signature, boolean}
 use Rattle.ath_sorts.specs.Sorts.{same_svar, image}
 use Rattle.ath_sorts.specs.Validity.{IsValid}
-use Rattle.ath_terms.specs.declared.node.Var.{Var as Variable}
-use Rattle.ath_terms.specs.declared.node.Conn.TheVariants.{Not, And, Or, If, Iff}
+use Rattle.ath_trees.specs.declared.node.Var.{Var as Variable}
 use Rattle.ath_terms.specs.declared.measure.BuildError.{BuildError}
 use Rattle.ath_terms.specs.declared.measure.BuildError.TheVariants.{SortClash, ArgCount, NotBoolean, TooLarge, TooDeep, SortTooLarge, Memory}
-use Rattle.ath_terms.specs.Tree.{Term, Terms, var, app, none, more, Sent, atom, equal, negated, joined, bound}
-use Rattle.ath_terms.specs.WellSorted.{is_valid_sort, HasSort, var_has, app_has, HaveSorts, none_has, more_has, IsWellSorted, AreWellSorted}
-use Rattle.ath_terms.specs.Variables.{is_namesake, same_var, with_var, with_vars, with_term, with_terms, with_sent, with_sents}
+use Rattle.ath_trees.specs.Tree.{Term, Terms, var, app, none, more, Sent, atom, equal, negated, joined, bound}
+use Rattle.ath_trees.specs.WellSorted.{is_valid_sort, HasSort, var_has, app_has, HaveSorts, none_has, more_has, IsWellSorted, AreWellSorted}
+use Rattle.ath_trees.specs.Variables.{is_namesake, same_var, with_var, with_vars, with_term, with_terms, with_sent, with_sents}
 use Rattle.ath_terms.specs.Construction.{pair_after, pairs_from, variable_pairs, Measure, IsWithin, MatchSolved, MatchMeasured, MatchRefused}
-use Rattle.ath_terms.proofs.ValidSorts.{valid-var, valid_under, use_valid, symbol_good}
+use Rattle.ath_trees.proofs.ValidSorts.{valid-var, valid_under, use_valid, symbol_good}
 use Rattle.ath_terms.proofs.UnifierValid.{AreValid}
 
 -- ---- answers
@@ -102,11 +101,7 @@ pub sent_vars-valid : (sig : Signature) (found : List Variable) (p : Sent) → A
 sent_vars-valid sig found (atom t) h w = term_vars-valid sig found t boolean h w
 sent_vars-valid sig found (equal s t) h w = term_vars-valid sig (with_term found s) t w.0 (term_vars-valid sig found s w.0 h w.1.0) w.1.1
 sent_vars-valid sig found (negated p) h w = sent_vars-valid sig found p h w
-sent_vars-valid sig found (joined Not p q) h w = absurd w
-sent_vars-valid sig found (joined And p q) h w = sent_vars-valid sig (with_sent found p) q (sent_vars-valid sig found p h w.0) w.1
-sent_vars-valid sig found (joined Or p q) h w = sent_vars-valid sig (with_sent found p) q (sent_vars-valid sig found p h w.0) w.1
-sent_vars-valid sig found (joined If p q) h w = sent_vars-valid sig (with_sent found p) q (sent_vars-valid sig found p h w.0) w.1
-sent_vars-valid sig found (joined Iff p q) h w = sent_vars-valid sig (with_sent found p) q (sent_vars-valid sig found p h w.0) w.1
+sent_vars-valid sig found (joined c p q) h w = sent_vars-valid sig (with_sent found p) q (sent_vars-valid sig found p h w.0) w.1
 sent_vars-valid sig found (bound k v p) h w = vars-valid sig found (filter (λ w. not (same_var v w)) (with_sent [] p)) h (filter-valid sig (λ w. not (same_var v w)) (with_sent [] p) (sent_vars-valid sig [] p tt w.1))
 
 pub sents_vars-valid : (sig : Signature) (found : List Variable) (ps : List Sent) → AreVars sig found → AreWellSorted sig ps → AreVars sig (with_sents found ps)

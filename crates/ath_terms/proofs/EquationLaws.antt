@@ -5,17 +5,18 @@ use Rattle.ath_sorts.specs.declared.sorts.SVar.{SVar}
 use Rattle.ath_sorts.specs.declared.sorts.Sort.{Sort}
 use Rattle.ath_sorts.specs.Signature.{Signature}
 use Rattle.ath_sorts.specs.Sorts.{image, apply_to}
-use Rattle.ath_terms.specs.declared.node.SentId.{SentId}
+use Rattle.ath_trees.specs.declared.node.SentId.{SentId}
 use Rattle.ath_terms.specs.declared.measure.BuildError.{BuildError}
-use Rattle.ath_terms.specs.Measure.{term_size, term_depth}
-use Rattle.ath_terms.specs.Tree.{equal}
+use Rattle.ath_trees.specs.Measure.{term_size, term_depth}
+use Rattle.ath_trees.specs.Tree.{equal}
 use Rattle.ath_terms.specs.Trees.{Trees, term_at, sort_at, IsSent}
-use Rattle.ath_terms.specs.SortsIn.{IsSortedIn, has_small_sorts}
-use Rattle.ath_terms.specs.Variables.{with_term}
-use Rattle.ath_terms.specs.Under.{term_under, sent_under}
-use Rattle.ath_terms.specs.WellSorted.{is_valid_sort}
+use Rattle.ath_trees.specs.SortsIn.{has_small_sorts}
+use Rattle.ath_terms.specs.SortsIn.{IsSortedIn}
+use Rattle.ath_trees.specs.Variables.{with_term}
+use Rattle.ath_trees.specs.Under.{term_under, sent_under}
+use Rattle.ath_trees.specs.WellSorted.{is_valid_sort}
 use Rattle.ath_terms.specs.Construction.{variable_pairs, sent_measure, equation_plan, MatchSolved, MatchMeasured, MatchRefused, MatchSent}
-use Rattle.ath_terms.proofs.UnderLaws.{sort_in-is, size-under, depth-under}
+use Rattle.ath_trees.proofs.UnderLaws.{sort_in-is, size-under, depth-under}
 use Rattle.ath_terms.proofs.UnifierValid.{AreValid, unifier_valid}
 use Rattle.ath_terms.proofs.ConstructionLaws.{measured-is, refused-solve, refused-measure, within-measure, has_sort-valid, term_vars-valid, variable_pairs-valid}
 

@@ -2,14 +2,11 @@ pub mod BuiltLaws
 pub mod NodeLaws
 pub mod StoreLaws
 pub mod Grow
-pub mod SameLaws
 pub mod Parts
 pub mod ConnParts
 pub mod Measures
 pub mod VariableLaws
 pub mod FreshLaws
-pub mod ValidSorts
-pub mod UnderLaws
 pub mod WithinLaws
 pub mod StepLaws
 pub mod SortedLaws
@@ -23,5 +20,4 @@ pub mod SentLaws
 pub mod SentWithin
 pub mod GroupLaws
 pub mod ConnectiveLaws
-pub mod SignatureGrowth
 mod Rows

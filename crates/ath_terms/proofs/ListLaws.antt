@@ -8,15 +8,15 @@ use Rattle.ath_sorts.specs.declared.sorts.SVar.{SVar}
 use Rattle.ath_sorts.specs.declared.sorts.SVar.TheVariants.{Written, Made}
 use Rattle.ath_sorts.specs.declared.sorts.Sort.{Sort, Var}
 use Rattle.ath_sorts.specs.Signature.{Signature}
-use Rattle.ath_terms.specs.declared.node.TermId.{TermId}
-use Rattle.ath_terms.specs.declared.node.Var.{Var as Variable}
-use Rattle.ath_terms.specs.Tree.{Term, atom, listed}
+use Rattle.ath_trees.specs.declared.node.TermId.{TermId}
+use Rattle.ath_trees.specs.declared.node.Var.{Var as Variable}
+use Rattle.ath_trees.specs.Tree.{Term, atom, listed}
 use Rattle.ath_terms.specs.Trees.{Trees, term_at, sort_at, Grows, IsTerm}
 use Rattle.ath_terms.specs.Lists.{AreTerms}
-use Rattle.ath_terms.specs.Measure.{term_size, terms_size, term_depth, terms_depth, IsSmall}
-use Rattle.ath_terms.specs.SortsIn.{have_small_sorts}
-use Rattle.ath_terms.specs.Under.{term_under, terms_under}
-use Rattle.ath_terms.specs.Variables.{with_terms}
+use Rattle.ath_trees.specs.Measure.{term_size, terms_size, term_depth, terms_depth, IsSmall}
+use Rattle.ath_trees.specs.SortsIn.{have_small_sorts}
+use Rattle.ath_trees.specs.Under.{term_under, terms_under}
+use Rattle.ath_trees.specs.Variables.{with_terms}
 use Rattle.ath_terms.specs.Construction.{made_sorts}
 use Rattle.ath_terms.proofs.Measures.{total, total-next, total-all, most, most-next, most-all, listed-size, listed-depth}
 use Rattle.ath_terms.proofs.VariableLaws.{term_vars_to}

@@ -3,13 +3,13 @@ use Rattle.std.proofs.Common.{◌≡◌, ℕ, zero, suc, ◌+◌, ◌<◌, ◌�
 use Rattle.std.proofs.lemmas.Grind.{common_steps}
 use Rattle.ath_sorts.specs.declared.sorts.Sym.{Sym}
 use Rattle.ath_sorts.specs.declared.sorts.Sort.{Sort}
-use Rattle.ath_terms.specs.declared.node.TermId.{TermId}
+use Rattle.ath_trees.specs.declared.node.TermId.{TermId}
 use Rattle.ath_terms.specs.declared.node.TermNode.{TermNode}
 use Rattle.ath_terms.specs.declared.node.TermNode.TheVariants.{App}
-use Rattle.ath_terms.specs.Tree.{Term, listed}
+use Rattle.ath_trees.specs.Tree.{Term, listed}
 use Rattle.ath_terms.specs.Trees.{term_at}
 use Rattle.ath_terms.specs.Nodes.{term_tree, IsTermBelow}
-use Rattle.ath_terms.specs.Measure.{term_size, terms_size, term_depth, terms_depth}
+use Rattle.ath_trees.specs.Measure.{term_size, terms_size, term_depth, terms_depth}
 
 abbrev pub total : {A : Type 0} → (A → ℕ) → List A → ℕ
 total f [] = 0

@@ -1,8 +1,8 @@
 -- Worked nodes and levels, computed.
 use Rattle.std.proofs.Common.{◌≡◌, [], refl}
-use Rattle.ath_terms.specs.declared.node.Conn.TheVariants.{If}
-use Rattle.ath_terms.specs.Tree.{Term, app, none, more, atom, equal, negated, joined, constant}
-use Rattle.ath_terms.specs.Measure.{sent_size, sent_depth}
+use Rattle.ath_trees.specs.declared.node.Binary.TheVariants.{If}
+use Rattle.ath_trees.specs.Tree.{Term, app, none, more, atom, equal, negated, joined, constant}
+use Rattle.ath_trees.specs.Measure.{sent_size, sent_depth}
 
 abbrev a : Term
 a = constant (record { 0 = 5 })

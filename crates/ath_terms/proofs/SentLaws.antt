@@ -7,24 +7,25 @@ use Rattle.ath_sorts.specs.declared.sorts.Sort.{Sort}
 use Rattle.ath_sorts.specs.Signature.{Signature, boolean}
 use Rattle.ath_sorts.specs.Sorts.{apply_to}
 use Rattle.ath_sorts.proofs.SortLaws.{apply-con}
-use Rattle.ath_terms.specs.declared.node.Var.{Var}
-use Rattle.ath_terms.specs.declared.node.Conn.{Conn}
-use Rattle.ath_terms.specs.declared.node.Quant.{Quant}
-use Rattle.ath_terms.specs.declared.node.TermId.{TermId}
-use Rattle.ath_terms.specs.declared.node.SentId.{SentId}
+use Rattle.ath_trees.specs.declared.node.Var.{Var}
+use Rattle.ath_trees.specs.declared.node.Conn.{Conn}
+use Rattle.ath_trees.specs.declared.node.Quant.{Quant}
+use Rattle.ath_trees.specs.declared.node.TermId.{TermId}
+use Rattle.ath_trees.specs.declared.node.SentId.{SentId}
 use Rattle.ath_terms.specs.declared.node.SentNode.{SentNode}
 use Rattle.ath_terms.specs.declared.node.SentNode.TheVariants as node
-use Rattle.ath_terms.specs.Tree.{Sent, atom, equal, bound}
+use Rattle.ath_trees.specs.Tree.{Sent, atom, equal, bound}
 use Rattle.ath_terms.specs.Trees.{Trees, term_at, sort_at, sent_at, Grows, IsSent}
 use Rattle.ath_terms.specs.Lists.{AreSents}
 use Rattle.ath_terms.specs.Nodes.{sent_tree, conn_tree, arity, IsSentBelow}
 use Rattle.ath_terms.specs.SortsIn.{IsSortedIn}
-use Rattle.ath_terms.specs.Under.{var_under, sent_node_under, sent_under}
-use Rattle.ath_terms.specs.Variables.{with_sents}
-use Rattle.ath_terms.specs.WellSorted.{is_valid_sort, IsWellSorted}
+use Rattle.ath_trees.specs.Under.{var_under, sent_under}
+use Rattle.ath_terms.specs.Under.{sent_node_under}
+use Rattle.ath_trees.specs.Variables.{with_sents}
+use Rattle.ath_trees.specs.WellSorted.{is_valid_sort, IsWellSorted}
 use Rattle.ath_terms.proofs.Grow.{sent-kept}
 use Rattle.ath_terms.proofs.ConnParts.{under_of_conn}
-use Rattle.ath_terms.proofs.UnderLaws.{sort_in-is, well_sorted-under}
+use Rattle.ath_trees.proofs.UnderLaws.{sort_in-is, well_sorted-under}
 
 abbrev pub sent_images_of : Trees → (SVar → Sort) → List SentId → List Sent
 sent_images_of s f ids = map (λ j. sent_under f (sent_at s.sents j.0)) ids

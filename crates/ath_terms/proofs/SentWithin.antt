@@ -5,11 +5,11 @@ use Rattle.std.proofs.lemmas.List.{take_all}
 use Rattle.ath_sorts.specs.declared.sorts.SVar.{SVar}
 use Rattle.ath_sorts.specs.declared.sorts.Sort.{Sort}
 use Rattle.ath_sorts.specs.Signature.{Signature}
-use Rattle.ath_terms.specs.declared.node.SentId.{SentId}
-use Rattle.ath_terms.specs.Tree.{Sent}
+use Rattle.ath_trees.specs.declared.node.SentId.{SentId}
+use Rattle.ath_trees.specs.Tree.{Sent}
 use Rattle.ath_terms.specs.Trees.{sent_at}
-use Rattle.ath_terms.specs.SortsIn.{sent_has_small_sorts}
-use Rattle.ath_terms.specs.Under.{sent_under}
+use Rattle.ath_trees.specs.SortsIn.{sent_has_small_sorts}
+use Rattle.ath_trees.specs.Under.{sent_under}
 
 abbrev pub sents_within : Signature → (SVar → Sort) → List Sent → List SentId → Bool
 sents_within sig f ss ids = list_all (λ j. sent_has_small_sorts sig (sent_under f (sent_at ss j.0))) ids

@@ -3,10 +3,10 @@ use Rattle.std.proofs.Common.{◌≡◌, ℕ, ◌+◌, ◌<◌, ◌⊎◌, inl, 
 use Rattle.std.proofs.lemmas.Grind.{common_steps}
 use Rattle.ath_sorts.specs.declared.sorts.Sort.{Sort}
 use Rattle.ath_sorts.specs.Signature.{Signature}
-use Rattle.ath_terms.specs.Tree.{Term, Sent}
+use Rattle.ath_trees.specs.Tree.{Term, Sent}
 use Rattle.ath_terms.specs.Trees.{Trees, term_at, sort_at, sent_at}
 use Rattle.ath_terms.specs.SortsIn.{IsSortedIn}
-use Rattle.ath_terms.specs.WellSorted.{HasSort, IsWellSorted}
+use Rattle.ath_trees.specs.WellSorted.{HasSort, IsWellSorted}
 use Rattle.ath_terms.proofs.Grow.{grows-terms, grows-sents, new-term, new-sent}
 
 last : (a b : ℕ) → a < b + 1 → (a < b) ⊎ (a ≡ b)

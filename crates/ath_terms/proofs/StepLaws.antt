@@ -7,19 +7,20 @@ use Rattle.ath_sorts.specs.declared.sorts.SVar.{SVar}
 use Rattle.ath_sorts.specs.declared.sorts.Sort.{Sort}
 use Rattle.ath_sorts.specs.Signature.{Signature}
 use Rattle.ath_sorts.specs.Sorts.{apply_to}
-use Rattle.ath_terms.specs.declared.node.Var.{Var as Variable}
-use Rattle.ath_terms.specs.declared.node.TermId.{TermId}
+use Rattle.ath_trees.specs.declared.node.Var.{Var as Variable}
+use Rattle.ath_trees.specs.declared.node.TermId.{TermId}
 use Rattle.ath_terms.specs.declared.node.TermNode.{TermNode}
 use Rattle.ath_terms.specs.declared.node.TermNode.TheVariants.{Var, App}
-use Rattle.ath_terms.specs.Tree.{Term, app, listed}
+use Rattle.ath_trees.specs.Tree.{Term, app, listed}
 use Rattle.ath_terms.specs.Trees.{Trees, term_at, sort_at, Grows, IsTerm}
 use Rattle.ath_terms.specs.Lists.{AreTerms}
 use Rattle.ath_terms.specs.Nodes.{term_tree, IsTermBelow}
 use Rattle.ath_terms.specs.SortsIn.{IsSortedIn}
-use Rattle.ath_terms.specs.Under.{node_under, term_under}
-use Rattle.ath_terms.specs.WellSorted.{is_valid_sort, HasSort}
+use Rattle.ath_trees.specs.Under.{term_under}
+use Rattle.ath_terms.specs.Under.{node_under}
+use Rattle.ath_trees.specs.WellSorted.{is_valid_sort, HasSort}
 use Rattle.ath_terms.proofs.Grow.{term-kept}
-use Rattle.ath_terms.proofs.UnderLaws.{listed-under, has_sort-under}
+use Rattle.ath_trees.proofs.UnderLaws.{listed-under, has_sort-under}
 
 -- the trees of some terms under a substitution
 abbrev pub images_of : Trees → (SVar → Sort) → List TermId → List Term

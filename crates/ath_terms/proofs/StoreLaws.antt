@@ -6,7 +6,7 @@ use Rattle.ath_terms.specs.declared.store.SortedNode.{SortedNode}
 use Rattle.ath_terms.specs.declared.node.TermNode.{TermNode}
 use Rattle.ath_terms.specs.declared.node.SentNode.{SentNode}
 use Rattle.ath_terms.specs.declared.node.SentNode.TheVariants as node
-use Rattle.ath_terms.specs.Tree.{Term, Sent, atom, equal}
+use Rattle.ath_trees.specs.Tree.{Term, Sent, atom, equal}
 use Rattle.ath_terms.specs.Trees.{Trees, blank, term_at, sort_at, sent_at}
 use Rattle.ath_terms.specs.Built.{built, IsOrdered}
 use Rattle.ath_terms.specs.Nodes.{term_tree, sent_tree, term_trees, sent_trees, IsTermBelow, IsSentBelow}

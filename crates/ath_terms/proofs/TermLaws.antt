@@ -6,21 +6,22 @@ use Rattle.ath_sorts.specs.declared.sorts.Sort.{Sort}
 use Rattle.ath_sorts.specs.Signature.{Signature, boolean}
 use Rattle.ath_sorts.specs.Sorts.{image, apply_to}
 use Rattle.ath_sorts.specs.Unifiers.{HasUnifier}
-use Rattle.ath_terms.specs.declared.node.TermId.{TermId}
-use Rattle.ath_terms.specs.declared.node.SentId.{SentId}
+use Rattle.ath_trees.specs.declared.node.TermId.{TermId}
+use Rattle.ath_trees.specs.declared.node.SentId.{SentId}
 use Rattle.ath_terms.specs.declared.measure.BuildError.{BuildError}
 use Rattle.ath_terms.specs.declared.measure.BuildError.TheVariants.{SortClash, ArgCount, NotBoolean, TooLarge, TooDeep, SortTooLarge, Memory}
-use Rattle.ath_terms.specs.Measure.{term_size, term_depth}
-use Rattle.ath_terms.specs.Tree.{Term, atom}
+use Rattle.ath_trees.specs.Measure.{term_size, term_depth}
+use Rattle.ath_trees.specs.Tree.{Term, atom}
 use Rattle.ath_terms.specs.Trees.{Trees, term_at, sort_at, IsTermOf, IsSent}
-use Rattle.ath_terms.specs.SortsIn.{IsSortedIn, sort_in, has_small_sorts}
-use Rattle.ath_terms.specs.Variables.{with_term}
-use Rattle.ath_terms.specs.Under.{term_under}
-use Rattle.ath_terms.specs.WellSorted.{has_arity, is_valid_sort}
+use Rattle.ath_trees.specs.SortsIn.{sort_in, has_small_sorts}
+use Rattle.ath_terms.specs.SortsIn.{IsSortedIn}
+use Rattle.ath_trees.specs.Variables.{with_term}
+use Rattle.ath_trees.specs.Under.{term_under}
+use Rattle.ath_trees.specs.WellSorted.{has_arity, is_valid_sort}
 use Rattle.ath_terms.specs.Construction.{variable_pairs, term_measure, ascription_plan, atom_plan, MatchSolved, MatchBoolean, MatchMeasured, MatchRefused, MatchTerm, MatchAtom}
-use Rattle.ath_terms.proofs.UnderLaws.{sort_in-is, sort_in-under, size-under, depth-under}
+use Rattle.ath_trees.proofs.UnderLaws.{sort_in-is, sort_in-under, size-under, depth-under}
 use Rattle.ath_sorts.proofs.SortLaws.{apply-con}
-use Rattle.ath_terms.proofs.ValidSorts.{valid-con}
+use Rattle.ath_trees.proofs.ValidSorts.{valid-con}
 use Rattle.ath_terms.proofs.UnifierValid.{AreValid, unifier_valid}
 use Rattle.ath_terms.proofs.ConstructionLaws.{measured-is, refused-solve, refused-measure, within-measure, has_sort-valid, term_vars-valid, variable_pairs-valid}
 

@@ -14,8 +14,8 @@ use Rattle.ath_sorts.specs.Sorts.{image, apply_to}
 use Rattle.ath_sorts.specs.Unifiers.{Unifies, IsLeastUnifier}
 use Rattle.ath_sorts.proofs.SortLaws.{sort_induction, apply-var, apply-con}
 use Rattle.ath_sorts.proofs.Bools.{and_parts}
-use Rattle.ath_terms.specs.WellSorted.{has_arity, is_valid_sort}
-use Rattle.ath_terms.proofs.ValidSorts.{both_true, valid-var, valid-con, valid_back}
+use Rattle.ath_trees.specs.WellSorted.{has_arity, is_valid_sort}
+use Rattle.ath_trees.proofs.ValidSorts.{both_true, valid-var, valid-con, valid_back}
 
 abbrev clean_step : Signature → one.Sort-F Sort → Sort
 clean_step sig (one.Var v) = Var v

@@ -5,19 +5,19 @@ use Rattle.std.proofs.lemmas.List.{take_all}
 use Rattle.ath_sorts.specs.declared.sorts.Sort.{Sort}
 use Rattle.ath_sorts.specs.Unifiers.{same_sort}
 use Rattle.ath_sorts.proofs.SameSorts.{same_sort-refl, same_sort-true}
-use Rattle.ath_terms.specs.declared.node.Var.{Var}
-use Rattle.ath_terms.specs.declared.node.Conn.{Conn}
-use Rattle.ath_terms.specs.declared.node.TermId.{TermId}
-use Rattle.ath_terms.specs.declared.node.SentId.{SentId}
+use Rattle.ath_trees.specs.declared.node.Var.{Var}
+use Rattle.ath_trees.specs.declared.node.Conn.{Conn}
+use Rattle.ath_trees.specs.declared.node.TermId.{TermId}
+use Rattle.ath_trees.specs.declared.node.SentId.{SentId}
 use Rattle.ath_terms.specs.declared.node.TermNode.{TermNode}
 use Rattle.ath_terms.specs.declared.node.TermNode.TheVariants.{App}
 use Rattle.ath_terms.specs.declared.node.SentNode.{SentNode}
 use Rattle.ath_terms.specs.declared.node.SentNode.TheVariants as node
 use Rattle.ath_sorts.specs.declared.sorts.Sym.{Sym}
-use Rattle.ath_terms.specs.Tree.{Term, listed, Sent}
+use Rattle.ath_trees.specs.Tree.{Term, listed, Sent}
 use Rattle.ath_terms.specs.Trees.{term_at, sent_at}
 use Rattle.ath_terms.specs.Nodes.{term_tree, sent_tree, IsSentBelow}
-use Rattle.ath_terms.specs.Variables.{is_namesake, same_var, with_var, with_vars, with_term, with_terms, with_sent, with_sents}
+use Rattle.ath_trees.specs.Variables.{is_namesake, same_var, with_var, with_vars, with_term, with_terms, with_sent, with_sents}
 use Rattle.ath_terms.specs.Construction.{pair_after, pairs_from, variable_pairs}
 use Rattle.ath_terms.proofs.ConnParts.{vars_of_conn}
 

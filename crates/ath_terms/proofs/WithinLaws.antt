@@ -8,16 +8,17 @@ use Rattle.ath_sorts.specs.declared.sorts.Sort.{Sort}
 use Rattle.ath_sorts.specs.Limits.{is_small}
 use Rattle.ath_sorts.specs.Signature.{Signature}
 use Rattle.ath_sorts.specs.Sorts.{apply_to}
-use Rattle.ath_terms.specs.declared.node.Var.{Var as Variable}
-use Rattle.ath_terms.specs.declared.node.TermId.{TermId}
+use Rattle.ath_trees.specs.declared.node.Var.{Var as Variable}
+use Rattle.ath_trees.specs.declared.node.TermId.{TermId}
 use Rattle.ath_terms.specs.declared.node.TermNode.{TermNode}
 use Rattle.ath_terms.specs.declared.node.TermNode.TheVariants.{Var, App}
-use Rattle.ath_terms.specs.Tree.{Term, var, app, listed}
+use Rattle.ath_trees.specs.Tree.{Term, var, app, listed}
 use Rattle.ath_terms.specs.Trees.{Trees, term_at, sort_at}
 use Rattle.ath_terms.specs.Nodes.{term_tree}
-use Rattle.ath_terms.specs.SortsIn.{IsSortedIn, sort_in, has_small_sorts, have_small_sorts}
-use Rattle.ath_terms.specs.Under.{term_under, terms_under}
-use Rattle.ath_terms.proofs.UnderLaws.{sort_in-under}
+use Rattle.ath_trees.specs.SortsIn.{sort_in, has_small_sorts, have_small_sorts}
+use Rattle.ath_terms.specs.SortsIn.{IsSortedIn}
+use Rattle.ath_trees.specs.Under.{term_under, terms_under}
+use Rattle.ath_trees.proofs.UnderLaws.{sort_in-under}
 
 abbrev pub terms_within : Signature → (SVar → Sort) → List Term → List TermId → Bool
 terms_within sig f ts ids = list_all (λ j. has_small_sorts sig (term_under f (term_at ts j.0))) ids

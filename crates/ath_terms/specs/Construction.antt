@@ -12,19 +12,21 @@ use Rattle.ath_sorts.specs.Limits.{is_small}
 use Rattle.ath_sorts.specs.Sorts.{image}
 use Rattle.ath_sorts.specs.Signature.{Signature, at_sorts, boolean}
 use Rattle.ath_sorts.specs.Unifiers.{HasUnifier, IsLeastUnifier, IsClash}
-use Rattle.ath_terms.specs.declared.node.Var.{Var as Variable}
-use Rattle.ath_terms.specs.declared.node.Conn.{Conn}
-use Rattle.ath_terms.specs.declared.node.Conn.TheVariants.{Not, And, Or, If, Iff}
-use Rattle.ath_terms.specs.declared.node.TermId.{TermId}
-use Rattle.ath_terms.specs.declared.node.SentId.{SentId}
+use Rattle.ath_trees.specs.declared.node.Var.{Var as Variable}
+use Rattle.ath_trees.specs.declared.node.Conn.{Conn}
+use Rattle.ath_trees.specs.declared.node.Binary.{Binary}
+use Rattle.ath_trees.specs.declared.node.Conn.TheVariants.{Not, And, Or, If, Iff}
+use Rattle.ath_trees.specs.declared.node.TermId.{TermId}
+use Rattle.ath_trees.specs.declared.node.SentId.{SentId}
 use Rattle.ath_terms.specs.declared.measure.BuildError.{BuildError}
 use Rattle.ath_terms.specs.declared.measure.BuildError.TheVariants.{SortClash, ArgCount, NotBoolean, TooLarge, TooDeep, SortTooLarge, Memory}
-use Rattle.ath_terms.specs.Tree.{Term, app, listed, Sent, atom, equal, negated, joined}
+use Rattle.ath_trees.specs.Tree.{Term, app, listed, Sent, atom, equal, negated, joined, binary_of}
 use Rattle.ath_terms.specs.Trees.{Trees, blank, IsTermOf, IsSent}
-use Rattle.ath_terms.specs.Measure.{term_size, term_depth, sent_size, sent_depth, most_nodes, most_levels}
-use Rattle.ath_terms.specs.SortsIn.{sort_in, has_small_sorts, sent_has_small_sorts}
-use Rattle.ath_terms.specs.Variables.{is_namesake, with_term, with_terms, with_sents}
-use Rattle.ath_terms.specs.Under.{term_under, sent_under}
+use Rattle.ath_trees.specs.declared.limits.TheConstants.{MOST_TERM_NODES, MOST_TERM_LEVELS}
+use Rattle.ath_trees.specs.Measure.{term_size, term_depth, sent_size, sent_depth}
+use Rattle.ath_trees.specs.SortsIn.{sort_in, has_small_sorts, sent_has_small_sorts}
+use Rattle.ath_trees.specs.Variables.{is_namesake, with_term, with_terms, with_sents}
+use Rattle.ath_trees.specs.Under.{term_under, sent_under}
 
 -- ---- the pairs
 abbrev pub pair_after : Option Variable → Variable → List (Sort × Sort)
@@ -78,14 +80,18 @@ atom_plan sig t = record {
 }
 
 -- grouped to the right
-abbrev pub grouped : Conn → List Sent → Sent
+abbrev pub grouped : Binary → List Sent → Sent
 grouped c [] = atom blank
 grouped c (p ∷ []) = p
 grouped c (p ∷ q ∷ ps) = joined c p (grouped c (q ∷ ps))
 
+abbrev pub connected_by : Option Binary → List Sent → Sent
+connected_by None [] = atom blank
+connected_by None (p ∷ ps) = negated p
+connected_by (Some c) ps = grouped c ps
+
 abbrev pub connected : Conn → List Sent → Sent
-connected Not (p ∷ ps) = negated p
-connected c ps = grouped c ps
+connected c ps = connected_by (binary_of c) ps
 
 -- `not` has one part, `if` and `iff` have two, and `and` and `or` two or more
 abbrev pub takes : Conn → ℕ → Bool
@@ -153,25 +159,25 @@ MatchBoolean t pairs r = MatchSolved pairs r
 abbrev pub MatchRefused : List (Sort × Sort) → ((SVar → Sort) → Measure) → BuildError → Type 0
 MatchRefused pairs m (SortClash a b) = (at : ℕ) × (IsClash pairs at × (slice_get pairs at ≡ Some (a, b)))
 MatchRefused pairs m SortTooLarge = (u : List (SVar × Sort)) × IsForbidden u pairs (m (image u)).small
-MatchRefused pairs m (TooLarge n) = (u : List (SVar × Sort)) × (IsAllowed u pairs (m (image u)).small × (most_nodes < (m (image u)).nodes) × (n ≡ (m (image u)).nodes))
-MatchRefused pairs m (TooDeep n) = (u : List (SVar × Sort)) × (IsAllowed u pairs (m (image u)).small × ((m (image u)).nodes ≤ most_nodes) × (most_levels < (m (image u)).levels) × (n ≡ (m (image u)).levels))
+MatchRefused pairs m (TooLarge n) = (u : List (SVar × Sort)) × (IsAllowed u pairs (m (image u)).small × (MOST_TERM_NODES < (m (image u)).nodes) × (n ≡ (m (image u)).nodes))
+MatchRefused pairs m (TooDeep n) = (u : List (SVar × Sort)) × (IsAllowed u pairs (m (image u)).small × ((m (image u)).nodes ≤ MOST_TERM_NODES) × (MOST_TERM_LEVELS < (m (image u)).levels) × (n ≡ (m (image u)).levels))
 MatchRefused pairs m Memory = Unit {0}
 MatchRefused pairs m (ArgCount a b) = ⊥
 MatchRefused pairs m (NotBoolean t) = ⊥
 
 -- what the limits say of a tree of this measure
 abbrev pub MatchMeasured : Measure → Result (Unit {0}) BuildError → Type 0
-MatchMeasured m (Ok u) = (m.small ≡ true) × (m.nodes ≤ most_nodes) × (m.levels ≤ most_levels)
+MatchMeasured m (Ok u) = (m.small ≡ true) × (m.nodes ≤ MOST_TERM_NODES) × (m.levels ≤ MOST_TERM_LEVELS)
 MatchMeasured m (Err SortTooLarge) = m.small ≡ false
-MatchMeasured m (Err (TooLarge n)) = (m.small ≡ true) × (most_nodes < m.nodes) × (n ≡ m.nodes)
-MatchMeasured m (Err (TooDeep n)) = (m.small ≡ true) × (m.nodes ≤ most_nodes) × (most_levels < m.levels) × (n ≡ m.levels)
+MatchMeasured m (Err (TooLarge n)) = (m.small ≡ true) × (MOST_TERM_NODES < m.nodes) × (n ≡ m.nodes)
+MatchMeasured m (Err (TooDeep n)) = (m.small ≡ true) × (m.nodes ≤ MOST_TERM_NODES) × (MOST_TERM_LEVELS < m.levels) × (n ≡ m.levels)
 MatchMeasured m (Err e) = ⊥
 
 -- the tree is within the limits
 pub record IsWithin (u : List (SVar × Sort)) (pairs : List (Sort × Sort)) (m : Measure) : Type 0 where
   pub allowed : IsAllowed u pairs m.small
-  pub nodes : m.nodes ≤ most_nodes
-  pub levels : m.levels ≤ most_levels
+  pub nodes : m.nodes ≤ MOST_TERM_NODES
+  pub levels : m.levels ≤ MOST_TERM_LEVELS
 
 -- The answer is the id of the tree by the least unifier, with its sort, where all limits are kept; else the refusal.
 abbrev pub MatchTerm : Signature → Trees → Plan Term → Result TermId BuildError → Type 0

@@ -1,14 +1,9 @@
-pub mod Tree
-pub mod Code
 pub mod Trees
 pub mod Measure
 pub mod Nodes
 pub mod Built
 pub mod Lists
-pub mod Same
-pub mod WellSorted
 pub mod SortsIn
-pub mod Variables
 pub mod Under
 pub mod Fresh
 pub mod Construction

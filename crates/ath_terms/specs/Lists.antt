@@ -1,8 +1,8 @@
 -- Ids that stand for trees, one by one.
 use Rattle.std.specs.Prelude.{List, [], ◌∷◌}
-use Rattle.ath_terms.specs.declared.node.TermId.{TermId}
-use Rattle.ath_terms.specs.declared.node.SentId.{SentId}
-use Rattle.ath_terms.specs.Tree.{Term, Sent}
+use Rattle.ath_trees.specs.declared.node.TermId.{TermId}
+use Rattle.ath_trees.specs.declared.node.SentId.{SentId}
+use Rattle.ath_trees.specs.Tree.{Term, Sent}
 use Rattle.ath_terms.specs.Trees.{Trees, IsTerm, IsSent}
 
 abbrev pub AreTerms : Trees → List TermId → List Term → Type 0

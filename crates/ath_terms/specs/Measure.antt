@@ -1,62 +1,18 @@
--- How many nodes a tree has, and how deep it is. A variable and a constant count one; an application, an equation, a
--- connective and a quantifier count one more than their parts. A binder is no part, and sorts aren't counted.
-use Rattle.std.specs.Prelude.{◌≡◌, ℕ, ◌+◌, ◌<◌, ◌≤◌, max, Result, Ok, Err}
-use Rattle.ath_terms.specs.declared.node.SentId.{SentId}
+-- What is said of a sentence that is built from a node: where it has too many nodes, their number is told, else that of its
+-- levels.
+use Rattle.std.specs.Prelude.{◌≡◌, ◌<◌, ◌≤◌, Result, Ok, Err}
+use Rattle.ath_trees.specs.declared.limits.TheConstants.{MOST_TERM_NODES, MOST_TERM_LEVELS}
+use Rattle.ath_trees.specs.declared.node.SentId.{SentId}
 use Rattle.ath_terms.specs.declared.measure.BuildError.{BuildError}
 use Rattle.ath_terms.specs.declared.measure.BuildError.TheVariants.{SortClash, ArgCount, NotBoolean, TooLarge, TooDeep, SortTooLarge, Memory}
-use Rattle.ath_terms.specs.Tree.{Term, Terms, var, app, none, more, Sent, atom, equal, negated, joined, bound}
+use Rattle.ath_trees.specs.Tree.{Sent}
+use Rattle.ath_trees.specs.Measure.{sent_size, sent_depth, IsSmall}
 use Rattle.ath_terms.specs.Trees.{Trees, IsSent}
 
-abbrev mutual
-  pub term_size : Term → ℕ
-  term_size (var v) = 1
-  term_size (app f ss ts) = 1 + terms_size ts
-
-  pub terms_size : Terms → ℕ
-  terms_size none = 0
-  terms_size (more t ts) = term_size t + terms_size ts
-
-abbrev mutual
-  pub term_depth : Term → ℕ
-  term_depth (var v) = 1
-  term_depth (app f ss ts) = 1 + terms_depth ts
-
-  pub terms_depth : Terms → ℕ
-  terms_depth none = 0
-  terms_depth (more t ts) = max (term_depth t) (terms_depth ts)
-
-abbrev pub sent_size : Sent → ℕ
-sent_size (atom t) = term_size t
-sent_size (equal s t) = 1 + term_size s + term_size t
-sent_size (negated p) = 1 + sent_size p
-sent_size (joined c p q) = 1 + sent_size p + sent_size q
-sent_size (bound k v p) = 1 + sent_size p
-
-abbrev pub sent_depth : Sent → ℕ
-sent_depth (atom t) = term_depth t
-sent_depth (equal s t) = 1 + max (term_depth s) (term_depth t)
-sent_depth (negated p) = 1 + sent_depth p
-sent_depth (joined c p q) = 1 + max (sent_depth p) (sent_depth q)
-sent_depth (bound k v p) = 1 + sent_depth p
-
--- the most nodes and levels that a value has
-abbrev pub most_nodes : ℕ
-most_nodes = 100000
-
-abbrev pub most_levels : ℕ
-most_levels = 2000
-
--- a sentence within the limits
-pub record IsSmall (p : Sent) : Type 0 where
-  pub nodes : sent_size p ≤ most_nodes
-  pub levels : sent_depth p ≤ most_levels
-
--- The sentence is built where it is within the limits; where it has too many nodes, their number is told, else that of its
--- levels.
 abbrev pub IsBuilt : Trees → Result SentId BuildError → Sent → Type 0
 IsBuilt s (Ok p) x = IsSent s p.0 x × IsSmall x
-IsBuilt s (Err (TooLarge n)) x = (most_nodes < sent_size x) × (n ≡ sent_size x)
-IsBuilt s (Err (TooDeep n)) x = (sent_size x ≤ most_nodes) × (most_levels < sent_depth x) × (n ≡ sent_depth x)
+IsBuilt s (Err (TooLarge n)) x = (MOST_TERM_NODES < sent_size x) × (n ≡ sent_size x)
+IsBuilt s (Err (TooDeep n)) x = (sent_size x ≤ MOST_TERM_NODES) × (MOST_TERM_LEVELS < sent_depth x) × (n ≡ sent_depth x)
 IsBuilt s (Err Memory) x = Unit {0}
 IsBuilt s (Err (SortClash a b)) x = ⊥
 IsBuilt s (Err (ArgCount m n)) x = ⊥

@@ -1,13 +1,14 @@
 -- The trees of numbered nodes, whose parts have smaller numbers.
-use Rattle.std.specs.Prelude.{◌≡◌, ℕ, ◌<◌, List, [], ◌∷◌, length, map}
+use Rattle.std.specs.Prelude.{◌≡◌, ℕ, ◌<◌, List, [], ◌∷◌, length, map, Option, Some, None}
 use Rattle.std.specs.List.{All}
-use Rattle.ath_terms.specs.declared.node.Conn.{Conn}
-use Rattle.ath_terms.specs.declared.node.Conn.TheVariants.{Not}
+use Rattle.ath_trees.specs.declared.node.Conn.{Conn}
+use Rattle.ath_trees.specs.declared.node.Binary.{Binary}
+use Rattle.ath_trees.specs.declared.node.Conn.TheVariants.{Not}
 use Rattle.ath_terms.specs.declared.node.TermNode.{TermNode}
 use Rattle.ath_terms.specs.declared.node.TermNode.TheVariants.{Var, App}
 use Rattle.ath_terms.specs.declared.node.SentNode.{SentNode}
 use Rattle.ath_terms.specs.declared.node.SentNode.TheVariants as node
-use Rattle.ath_terms.specs.Tree.{Term, var, app, listed, Sent, atom, equal, negated, joined, bound}
+use Rattle.ath_trees.specs.Tree.{Term, var, app, listed, Sent, atom, equal, negated, joined, bound, binary_of}
 use Rattle.ath_terms.specs.Built.{built}
 use Rattle.ath_terms.specs.Trees.{blank, term_at, sent_at}
 
@@ -15,10 +16,13 @@ abbrev pub term_tree : List Term → TermNode → Term
 term_tree ts (Var v) = var v
 term_tree ts (App f ss ids) = app f ss (listed (map (λ i. term_at ts i.0) ids))
 
+abbrev pub parts_tree : Option Binary → List Sent → Sent
+parts_tree None (p ∷ ps) = negated p
+parts_tree (Some c) (p ∷ q ∷ ps) = joined c p q
+parts_tree c ps = atom blank
+
 abbrev pub conn_tree : Conn → List Sent → Sent
-conn_tree Not (p ∷ ps) = negated p
-conn_tree c (p ∷ q ∷ ps) = joined c p q
-conn_tree c ps = atom blank
+conn_tree c ps = parts_tree (binary_of c) ps
 
 abbrev pub sent_tree : List Term → List Sent → SentNode → Sent
 sent_tree ts ss (node.Atom t) = atom (term_at ts t.0)

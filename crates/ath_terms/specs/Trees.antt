@@ -4,8 +4,8 @@ use Rattle.std.specs.Coded.{Coded, code_by, coded×, coded_list}
 use Rattle.ath_sorts.specs.contracts.sorts.Sort as sort
 use Rattle.ath_sorts.specs.declared.sorts.Sort.{Sort}
 use Rattle.ath_sorts.specs.Signature.{boolean}
-use Rattle.ath_terms.specs.Tree.{Term, app, none, Sent, atom}
-use Rattle.ath_terms.specs.Code.{term_code, sent_code}
+use Rattle.ath_trees.specs.Tree.{Term, app, none, Sent, atom}
+use Rattle.ath_trees.specs.Code.{term_code, sent_code}
 
 -- the trees of the terms with their sorts, and those of the sentences, by their numbers
 pub record Trees : Type 0 where

@@ -4,10 +4,11 @@ ghost use Rattle.std.specs.Prelude.{◌≡◌, ◌<◌, ◌↔◌, IsTrue, lengt
 ghost use Rattle.std.specs.List.{All};
 ghost use Rattle.ath_terms.specs.Trees.{Trees, term_at, sent_at};
 
-use crate::node::{Conn, SentId, SentNode, TermId, TermNode, Var};
+use crate::node::{SentNode, TermNode};
 use crate::store::Store;
 use ath_sorts::Sort;
 use ath_sorts::sorts::is_same;
+use ath_trees::{Conn, SentId, TermId, Var};
 
 fn is_same_var(v: &Var, w: &Var) -> bool
     ensures { IsTrue result ↔ (v.now ≡ w.now) }

@@ -11,8 +11,6 @@ pub mod store;
 mod tests;
 
 pub use fresh::Fresh;
-pub use measure::{
-    BuildError, MOST_LEVELS, MOST_NODES, sent_depth, sent_size, term_depth, term_size,
-};
-pub use node::{Conn, Quant, SentId, SentNode, TermId, TermNode, Var};
+pub use measure::{BuildError, sent_depth, sent_size, term_depth, term_size};
+pub use node::{SentNode, TermNode};
 pub use store::Store;

@@ -4,23 +4,18 @@ ghost use Rattle.std.specs.Prelude.{◌≡◌, ◌<◌, ◌≤◌, length, IfOk}
 ghost use Rattle.ath_sorts.specs.Signature.{Signature};
 ghost use Rattle.ath_terms.specs.SortsIn.{IsSortedIn};
 ghost use Rattle.ath_terms.specs.Trees.{term_at, sent_at, Grows, IsSent};
-ghost use Rattle.ath_terms.specs.Tree.{joined};
-ghost use Rattle.ath_terms.specs.Measure.{term_size, term_depth, sent_size, sent_depth, most_nodes, most_levels};
-ghost use Rattle.ath_terms.specs.declared.node.Conn.TheVariants.{Not};
+ghost use Rattle.ath_trees.specs.Tree.{joined};
+ghost use Rattle.ath_trees.specs.declared.limits.TheConstants.{MOST_TERM_NODES, MOST_TERM_LEVELS};
+ghost use Rattle.ath_trees.specs.Measure.{term_size, term_depth, sent_size, sent_depth};
 ghost use Rattle.ath_terms.specs.declared.measure.BuildError.TheVariants.{Memory};
 
-use crate::node::{Conn, SentId, SentNode, TermId, TermNode};
+use crate::node::{SentNode, TermNode};
 use crate::store::Store;
 use ath_sorts::Sort;
+use ath_trees::{Binary, SentId, TermId};
 use sqlite_items::Items;
 use std::alloc::{AllocError, Global};
 use thiserror::Error;
-
-/// The most nodes of a value.
-pub const MOST_NODES: u64 = 100_000;
-
-/// The most levels of a value.
-pub const MOST_LEVELS: u64 = 2_000;
 
 /// Why a term or a sentence isn't built.
 #[derive(Debug, Drop, Error)]
@@ -57,7 +52,7 @@ impl From<AllocError> for BuildError {
 /// The nodes of a term.
 pub fn term_size(store: &Store, t: TermId) -> u64
     requires inside { t.0 < length store.now.terms }
-    requires small { term_size (term_at store.now.terms t.0) ≤ most_nodes }
+    requires small { term_size (term_at store.now.terms t.0) ≤ MOST_TERM_NODES }
     ensures { result ≡ term_size (term_at store.now.terms t.0) }
 {
     match store.term(t) {
@@ -76,7 +71,7 @@ pub fn term_size(store: &Store, t: TermId) -> u64
 /// The levels of a term.
 pub fn term_depth(store: &Store, t: TermId) -> u64
     requires inside { t.0 < length store.now.terms }
-    requires small { term_depth (term_at store.now.terms t.0) ≤ most_levels }
+    requires small { term_depth (term_at store.now.terms t.0) ≤ MOST_TERM_LEVELS }
     ensures { result ≡ term_depth (term_at store.now.terms t.0) }
 {
     match store.term(t) {
@@ -95,7 +90,7 @@ pub fn term_depth(store: &Store, t: TermId) -> u64
 /// The nodes of a sentence.
 pub fn sent_size(store: &Store, p: SentId) -> u64
     requires inside { p.0 < length store.now.sents }
-    requires small { sent_size (sent_at store.now.sents p.0) ≤ most_nodes }
+    requires small { sent_size (sent_at store.now.sents p.0) ≤ MOST_TERM_NODES }
     ensures { result ≡ sent_size (sent_at store.now.sents p.0) }
 {
     match store.sent(p) {
@@ -116,7 +111,7 @@ pub fn sent_size(store: &Store, p: SentId) -> u64
 /// The levels of a sentence.
 pub fn sent_depth(store: &Store, p: SentId) -> u64
     requires inside { p.0 < length store.now.sents }
-    requires small { sent_depth (sent_at store.now.sents p.0) ≤ most_levels }
+    requires small { sent_depth (sent_at store.now.sents p.0) ≤ MOST_TERM_LEVELS }
     ensures { result ≡ sent_depth (sent_at store.now.sents p.0) }
 {
     match store.sent(p) {
@@ -137,11 +132,10 @@ pub fn sent_depth(store: &Store, p: SentId) -> u64
 pub(crate) fn add_joined(
     alloc: Global,
     store: &mut Store,
-    conn: Conn,
+    conn: Binary,
     p: SentId,
     q: SentId,
 ) -> Result<SentId, AllocError>
-    requires two { conn ≡ Not → ⊥ }
     requires left { p.0 < length store.old.sents }
     requires right { q.0 < length store.old.sents }
     ensures grows { Grows store.old store.new }
@@ -151,6 +145,6 @@ pub(crate) fn add_joined(
     let mut parts = Items::new(alloc);
     parts.push(p)?;
     parts.push(q)?;
-    let sent = store.add_sent(SentNode::Conn(conn, parts))?;
+    let sent = store.add_sent(SentNode::Conn(conn.conn(), parts))?;
     Ok(sent)
 }

@@ -4,8 +4,9 @@ ghost use Rattle.std.specs.Prelude.{◌≡◌, ℕ, ◌+◌, ◌<◌, [], ◌∷
 ghost use Rattle.ath_terms.specs.Trees.{Trees, term_at, sort_at, sent_at, Grows, IsTerm, IsSent};
 ghost use Rattle.ath_terms.specs.Nodes.{term_tree, sent_tree, IsTermBelow, IsSentBelow};
 
-use crate::node::{SentId, SentNode, TermId, TermNode};
+use crate::node::{SentNode, TermNode};
 use ath_sorts::Sort;
+use ath_trees::{SentId, TermId};
 use std::alloc::{AllocError, Global};
 use std::marker::Model;
 
@@ -42,7 +43,7 @@ impl Model for Store {
 impl Store {
     ghost use Rattle.ath_sorts.specs.Signature.{Signature};
     ghost use Rattle.ath_terms.specs.SortsIn.{IsSortedIn};
-    ghost use Rattle.ath_terms.specs.WellSorted.{HasSort, IsWellSorted};
+    ghost use Rattle.ath_trees.specs.WellSorted.{HasSort, IsWellSorted};
 
     /// A store without nodes.
     pub fn new(alloc: Global) -> Store

@@ -1,12 +1,13 @@
 // Constructions, on small stores.
 
 ghost use Rattle.std.specs.Prelude.{IfOk};
-ghost use Rattle.ath_terms.specs.Tree.{var};
+ghost use Rattle.ath_trees.specs.Tree.{var};
 ghost use Rattle.ath_terms.specs.Trees.{Grows, IsTerm};
 
 use super::*;
 use ath_sorts::sorts::{BOOLEAN, is_same};
 use ath_sorts::{SVar, Sort, Sym};
+use ath_trees::{Conn, TermId, Var};
 use sqlite_items::Items;
 use std::alloc::Global;
 use std::test::Fail;

@@ -7,7 +7,8 @@ use Rattle.std.proofs.Math.Bool.{and-false}
 use Rattle.std.proofs.lemmas.Bool.{false_from_ne_true, leb-true}
 use Rattle.std.proofs.lemmas.Result.{OkIff-at_err}
 use Rattle.std.proofs.lemmas.Str.Parse.{IsNumeralModel, numerals_by_value, parse_digits, tells_all_ascii_digits}
-use Rattle.ath_words.specs.Words.{fuel_of, is_number, most_fuel}
+use Rattle.ath_words.specs.Words.{fuel_of, is_number}
+use Rattle.ath_words.specs.declared.limits.TheConstants.{MOST_FUEL}
 
 own : IsNumeralModel (λ ds. all_ascii_digits ds ≡ true) (digits_value 10)
 own = numerals_by_value (λ ds. all_ascii_digits ds ≡ true) tells_all_ascii_digits
@@ -18,5 +19,5 @@ fuel_unread [] r e digits h is = refl
 fuel_unread (c ∷ cs) r e digits h is =
     let n = digits_value 10 (c ∷ cs) in
     let past = OkIff-at_err r _ _ e (parse_digits own 64 (c ∷ cs) r h digits) is in
-    let large : nat_le n most_fuel ≡ false = false_from_ne_true (nat_le n most_fuel) (λ le. past (omega arith, omega (arith, leb-true n most_fuel le))) in
+    let large : nat_le n MOST_FUEL ≡ false = false_from_ne_true (nat_le n MOST_FUEL) (λ le. past (omega arith, omega (arith, leb-true n MOST_FUEL le))) in
     sym (ap (λ b. cond (is_number (c ∷ cs) && b) (Some n) None) large ∙ ap (λ b. cond b (Some n) None) (and-false (is_number (c ∷ cs))))

@@ -5,15 +5,9 @@ use Rattle.std.specs.Prelude.{◌==◌, ◌&&◌, ◌||◌, ℕ, Bool, false, no
 use Rattle.std.specs.Str.{bytes_eq, all_ascii_digits}
 use Rattle.std.specs.Str.Parse.{digits_value}
 use Rattle.ath_words.specs.declared.Run.{Run}
+use Rattle.ath_words.specs.declared.limits.TheConstants.{MOST_FUEL, USUAL_FUEL}
 
 -- ---- numbers
-
--- the most fuel that a run may be given, and the fuel of a run that is given none
-abbrev pub most_fuel : ℕ
-most_fuel = 1000000000
-
-abbrev pub usual_fuel : ℕ
-usual_fuel = 10000000
 
 -- decimal digits, without a leading zero
 abbrev pub is_number : List ℕ → Bool
@@ -22,8 +16,8 @@ is_number (d ∷ ds) = not (d == 48) && all_ascii_digits (d ∷ ds)
 
 -- the fuel that the text of `--fuel` writes, where it is there
 abbrev pub fuel_of : Option (List ℕ) → Option ℕ
-fuel_of None = Some usual_fuel
-fuel_of (Some text) = if is_number text && nat_le (digits_value 10 text) most_fuel then Some (digits_value 10 text) else None
+fuel_of None = Some USUAL_FUEL
+fuel_of (Some text) = if is_number text && nat_le (digits_value 10 text) MOST_FUEL then Some (digits_value 10 text) else None
 
 -- ---- words
 

@@ -4,11 +4,7 @@ ghost use Rattle.std.specs.Prelude.{◌≡◌, Some, option_map};
 ghost use Rattle.std.specs.Str.{all_ascii_digits};
 ghost use Rattle.ath_words.specs.Words.{fuel_of, is_number};
 
-/// The most fuel that a run may be given.
-const MOST_FUEL: u64 = 1_000_000_000;
-
-/// The fuel of a run that is given none.
-const USUAL_FUEL: u64 = 10_000_000;
+use crate::limits::{MOST_FUEL, USUAL_FUEL};
 
 /// The fuel that the text of `--fuel` writes, where it is there.
 pub fn fuel(text: Option<&str>) -> Option<u64>

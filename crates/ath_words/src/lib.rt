@@ -2,6 +2,7 @@
 #![tactic(auto)]
 
 mod fuel;
+pub mod limits;
 #[cfg(test)]
 mod tests;
 

@@ -7,13 +7,16 @@ ghost use Rattle.ath_sorts.specs.Signature.{Signature};
 ghost use Rattle.ath_sorts.specs.Sorts.{image, apply_to};
 ghost use Rattle.ath_sorts.specs.declared.sorts.SVar.{SVar};
 ghost use Rattle.ath_terms.specs.Trees.{term_at, sort_at, sent_at, Grows, IsTermOf, IsSent};
-ghost use Rattle.ath_terms.specs.SortsIn.{IsSortedIn, has_small_sorts, sent_has_small_sorts};
-ghost use Rattle.ath_terms.specs.Under.{node_under, term_under, sent_under};
-ghost use Rattle.ath_terms.specs.WellSorted.{is_valid_sort};
+ghost use Rattle.ath_trees.specs.SortsIn.{has_small_sorts, sent_has_small_sorts};
+ghost use Rattle.ath_terms.specs.SortsIn.{IsSortedIn};
+ghost use Rattle.ath_trees.specs.Under.{term_under, sent_under};
+ghost use Rattle.ath_terms.specs.Under.{node_under};
+ghost use Rattle.ath_trees.specs.WellSorted.{is_valid_sort};
 
-use crate::node::{SentId, SentNode, TermId, TermNode, Var};
+use crate::node::{SentNode, TermNode};
 use crate::store::Store;
 use ath_sorts::{Sort, SortSubst};
+use ath_trees::{SentId, TermId, Var};
 use sqlite_items::Items;
 use std::alloc::{AllocError, Global};
 

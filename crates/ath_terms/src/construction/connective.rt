@@ -5,15 +5,15 @@ ghost use Rattle.std.specs.List.{All, list_all};
 ghost use Rattle.ath_sorts.specs.Signature.{Signature};
 ghost use Rattle.ath_sorts.specs.Sorts.{image};
 ghost use Rattle.ath_sorts.specs.declared.sorts.SVar.{SVar};
-ghost use Rattle.ath_terms.specs.declared.node.Conn.{Conn};
-ghost use Rattle.ath_terms.specs.declared.node.Conn.TheVariants.{Not};
+ghost use Rattle.ath_trees.specs.declared.node.Binary.{Binary};
 ghost use Rattle.ath_terms.specs.Trees.{sent_at, Grows, IsSent};
-ghost use Rattle.ath_terms.specs.Tree.{negated};
-ghost use Rattle.ath_terms.specs.Measure.{IsSmall, sent_size, sent_depth};
-ghost use Rattle.ath_terms.specs.SortsIn.{IsSortedIn, sent_has_small_sorts};
-ghost use Rattle.ath_terms.specs.Variables.{with_sents};
-ghost use Rattle.ath_terms.specs.Under.{sent_under, has_no_binder};
-ghost use Rattle.ath_terms.specs.WellSorted.{is_valid_sort};
+ghost use Rattle.ath_trees.specs.Tree.{negated};
+ghost use Rattle.ath_trees.specs.Measure.{IsSmall, sent_size, sent_depth};
+ghost use Rattle.ath_trees.specs.SortsIn.{sent_has_small_sorts};
+ghost use Rattle.ath_terms.specs.SortsIn.{IsSortedIn};
+ghost use Rattle.ath_trees.specs.Variables.{with_sents};
+ghost use Rattle.ath_trees.specs.Under.{sent_under, has_no_binder};
+ghost use Rattle.ath_trees.specs.WellSorted.{is_valid_sort};
 ghost use Rattle.ath_terms.specs.Construction.{takes, wanted, grouped, connected, connective_plan, variable_pairs, sent_measure, MatchMeasured, MatchSent, MatchConnective};
 
 use crate::construction::limits::check_limits;
@@ -21,9 +21,10 @@ use crate::construction::pairs::{add_variable_pairs, solve};
 use crate::construction::sentence::{is_sent_within, sent_under};
 use crate::construction::variables::add_sent_vars;
 use crate::measure::{BuildError, add_joined, sent_depth, sent_size};
-use crate::node::{Conn, SentId, SentNode, Var};
+use crate::node::SentNode;
 use crate::store::Store;
 use ath_sorts::{Sort, SortSubst};
+use ath_trees::{Binary, Conn, SentId, Var};
 use sqlite_items::Items;
 use std::alloc::{AllocError, Global};
 
@@ -96,7 +97,7 @@ fn grouped_size(store: &Store, parts: &[SentId]) -> u64
     requires few { length parts.now ≤ 4194304 }
     requires inside { All (λ i. i.0 < length store.now.sents) parts.now }
     requires small { All (λ i. IsSmall (sent_at store.now.sents i.0)) parts.now }
-    ensures { (c : Conn) → result ≡ sent_size (grouped c (map (λ i. sent_at store.now.sents i.0) parts.now)) }
+    ensures { (c : Binary) → result ≡ sent_size (grouped c (map (λ i. sent_at store.now.sents i.0) parts.now)) }
 {
     let mut nodes: u64 = 0;
     for i in 0..parts.len() {
@@ -111,7 +112,7 @@ fn grouped_depth(store: &Store, parts: &[SentId]) -> u64
     requires few { length parts.now ≤ 4194304 }
     requires inside { All (λ i. i.0 < length store.now.sents) parts.now }
     requires small { All (λ i. IsSmall (sent_at store.now.sents i.0)) parts.now }
-    ensures { (c : Conn) → result ≡ sent_depth (grouped c (map (λ i. sent_at store.now.sents i.0) parts.now)) }
+    ensures { (c : Binary) → result ≡ sent_depth (grouped c (map (λ i. sent_at store.now.sents i.0) parts.now)) }
 {
     let mut i = parts.len() - 1;
     let mut levels = sent_depth(store, parts[i]);
@@ -188,10 +189,9 @@ fn add_grouped(
     alloc: Global,
     store: &mut Store,
     subst: &SortSubst,
-    c: Conn,
+    c: Binary,
     parts: &[SentId],
 ) -> Result<SentId, AllocError>
-    requires two { c ≡ Not → ⊥ }
     requires some { 0 < length parts.now }
     requires inside { All (λ i. i.0 < length store.old.sents) parts.now }
     ensures grows { Grows store.old store.new }
@@ -221,12 +221,10 @@ fn add_connected(
     ensures tree { IfOk result (λ r. IsSent store.new r.0 (sent_under (image subst.now) (connected c (map (λ i. sent_at store.old.sents i.0) parts.now)))) }
     ensures sorted { (sig : Signature) → IsSortedIn sig store.old → ((v : SVar) → is_valid_sort sig (image subst.now v) ≡ true) → IsSortedIn sig store.new }
 {
-    if c == Conn::Not {
-        let sent = add_negated(alloc, store, subst, parts[0])?;
-        return Ok(sent);
+    match c.binary() {
+        None => add_negated(alloc, store, subst, parts[0]),
+        Some(joining) => add_grouped(alloc, store, subst, joining, parts),
     }
-    let sent = add_grouped(alloc, store, subst, c, parts)?;
-    Ok(sent)
 }
 
 fn build_connective(

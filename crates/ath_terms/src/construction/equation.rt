@@ -4,13 +4,14 @@ ghost use Rattle.std.specs.Prelude.{◌≡◌, ◌<◌, ◌&&◌, ◌∷◌, [],
 ghost use Rattle.ath_sorts.specs.Signature.{Signature};
 ghost use Rattle.ath_sorts.specs.Sorts.{image, apply_to};
 ghost use Rattle.ath_sorts.specs.declared.sorts.SVar.{SVar};
-ghost use Rattle.ath_terms.specs.Tree.{atom, equal};
+ghost use Rattle.ath_trees.specs.Tree.{atom, equal};
 ghost use Rattle.ath_terms.specs.Trees.{term_at, sort_at, Grows, IsSent};
-ghost use Rattle.ath_terms.specs.Measure.{IsSmall};
-ghost use Rattle.ath_terms.specs.SortsIn.{IsSortedIn, has_small_sorts};
-ghost use Rattle.ath_terms.specs.Variables.{with_term};
-ghost use Rattle.ath_terms.specs.Under.{term_under, sent_under};
-ghost use Rattle.ath_terms.specs.WellSorted.{is_valid_sort};
+ghost use Rattle.ath_trees.specs.Measure.{IsSmall};
+ghost use Rattle.ath_trees.specs.SortsIn.{has_small_sorts};
+ghost use Rattle.ath_terms.specs.SortsIn.{IsSortedIn};
+ghost use Rattle.ath_trees.specs.Variables.{with_term};
+ghost use Rattle.ath_trees.specs.Under.{term_under, sent_under};
+ghost use Rattle.ath_trees.specs.WellSorted.{is_valid_sort};
 ghost use Rattle.ath_terms.specs.Construction.{variable_pairs, sent_measure, equation_plan, MatchMeasured, MatchSent};
 
 use crate::construction::apply::{is_term_within, term_under};
@@ -18,9 +19,10 @@ use crate::construction::limits::check_limits;
 use crate::construction::pairs::{add_pair, add_variable_pairs, solve};
 use crate::construction::variables::add_term_vars;
 use crate::measure::{BuildError, term_depth, term_size};
-use crate::node::{SentId, SentNode, TermId};
+use crate::node::SentNode;
 use crate::store::Store;
 use ath_sorts::{Sort, SortSubst};
+use ath_trees::{SentId, TermId};
 use std::alloc::{AllocError, Global};
 
 fn equation_pairs(

@@ -2,7 +2,8 @@
 
 ghost use Rattle.ath_terms.specs.Construction.{MatchMeasured};
 
-use crate::measure::{BuildError, MOST_LEVELS, MOST_NODES};
+use crate::measure::BuildError;
+use ath_trees::{MOST_TERM_LEVELS, MOST_TERM_NODES};
 
 /// Refuses a tree with a sort above the limits, then one of too many nodes, then one of too many levels.
 pub(crate) fn check_limits(small: bool, nodes: u64, levels: u64) -> Result<(), BuildError>
@@ -11,10 +12,10 @@ pub(crate) fn check_limits(small: bool, nodes: u64, levels: u64) -> Result<(), B
     if !small {
         return Err(BuildError::SortTooLarge);
     }
-    if MOST_NODES < nodes {
+    if MOST_TERM_NODES < nodes {
         return Err(BuildError::TooLarge(nodes));
     }
-    if MOST_LEVELS < levels {
+    if MOST_TERM_LEVELS < levels {
         return Err(BuildError::TooDeep(levels));
     }
     Ok(())

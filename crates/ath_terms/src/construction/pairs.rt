@@ -2,14 +2,14 @@
 
 ghost use Rattle.std.specs.Prelude.{◌≡◌, ◌++◌, ◌∷◌, [], ◌<◌, length, find, OnOk, IfOk};
 ghost use Rattle.std.specs.Option.{option_copied};
-ghost use Rattle.ath_terms.specs.Variables.{is_namesake};
+ghost use Rattle.ath_trees.specs.Variables.{is_namesake};
 ghost use Rattle.ath_terms.specs.Construction.{pair_after, variable_pairs, IsClashAt, MatchSolved};
 
 use crate::construction::variables::is_namesake;
 use crate::measure::BuildError;
-use crate::node::Var;
 use ath_sorts::sorts::copied;
 use ath_sorts::{Sort, SortSubst, UnifyError, unify};
+use ath_trees::Var;
 use std::alloc::{AllocError, Global};
 
 fn first_namesake<'a>(before: &'a [Var], v: &Var) -> Option<&'a Var>

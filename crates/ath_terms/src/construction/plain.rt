@@ -3,22 +3,24 @@
 ghost use Rattle.std.specs.Prelude.{◌≡◌, ◌<◌, ◌≤◌, length, map, IfOk};
 ghost use Rattle.std.specs.List.{All};
 ghost use Rattle.ath_sorts.specs.Signature.{Signature};
-ghost use Rattle.ath_terms.specs.Tree.{atom, var, app, listed};
+ghost use Rattle.ath_trees.specs.Tree.{atom, var, app, listed};
 ghost use Rattle.ath_terms.specs.Trees.{term_at, Grows, IsTermOf};
-ghost use Rattle.ath_terms.specs.Measure.{IsSmall, IsBuilt, sent_size, sent_depth};
+ghost use Rattle.ath_trees.specs.Measure.{IsSmall, sent_size, sent_depth};
+ghost use Rattle.ath_terms.specs.Measure.{IsBuilt};
 ghost use Rattle.ath_terms.specs.Nodes.{sent_tree, IsSentBelow};
 ghost use Rattle.ath_terms.specs.SortsIn.{IsSortedIn};
-ghost use Rattle.ath_terms.specs.WellSorted.{HasSort, IsWellSorted};
+ghost use Rattle.ath_trees.specs.WellSorted.{HasSort, IsWellSorted};
 ghost use Rattle.ath_terms.specs.Plain.{IsPlainTerm, HasSmallParts};
 
 use crate::construction::application::{list_depth, list_size};
 use crate::construction::limits::check_limits;
 use crate::construction::variables::copied_var;
 use crate::measure::{BuildError, sent_depth, sent_size, term_depth, term_size};
-use crate::node::{SentId, SentNode, TermId, TermNode, Var};
+use crate::node::{SentNode, TermNode};
 use crate::store::Store;
 use ath_sorts::sorts::copied;
 use ath_sorts::{Sort, Sym};
+use ath_trees::{SentId, TermId, Var};
 use sqlite_items::Items;
 use std::alloc::{AllocError, Global};
 

@@ -5,16 +5,19 @@ ghost use Rattle.ath_sorts.specs.Signature.{Signature};
 ghost use Rattle.ath_sorts.specs.Sorts.{image};
 ghost use Rattle.ath_sorts.specs.declared.sorts.SVar.{SVar};
 ghost use Rattle.ath_terms.specs.Trees.{sent_at, Grows, IsSent};
-ghost use Rattle.ath_terms.specs.SortsIn.{IsSortedIn, sent_has_small_sorts};
-ghost use Rattle.ath_terms.specs.Under.{sent_node_under, sent_under};
-ghost use Rattle.ath_terms.specs.WellSorted.{is_valid_sort};
+ghost use Rattle.ath_trees.specs.SortsIn.{sent_has_small_sorts};
+ghost use Rattle.ath_terms.specs.SortsIn.{IsSortedIn};
+ghost use Rattle.ath_trees.specs.Under.{sent_under};
+ghost use Rattle.ath_terms.specs.Under.{sent_node_under};
+ghost use Rattle.ath_trees.specs.WellSorted.{is_valid_sort};
 
 use crate::construction::apply::is_term_within;
 use crate::construction::equation::{add_equation, are_both_within};
 use crate::construction::term::add_atom;
-use crate::node::{SentId, SentNode, Var};
+use crate::node::SentNode;
 use crate::store::Store;
 use ath_sorts::SortSubst;
+use ath_trees::{SentId, Var};
 use sqlite_items::Items;
 use std::alloc::{AllocError, Global};
 

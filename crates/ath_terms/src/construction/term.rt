@@ -4,13 +4,13 @@ ghost use Rattle.std.specs.Prelude.{◌≡◌, ◌<◌, ◌∷◌, [], true, len
 ghost use Rattle.ath_sorts.specs.Signature.{Signature, boolean};
 ghost use Rattle.ath_sorts.specs.Sorts.{image, apply_to};
 ghost use Rattle.ath_sorts.specs.declared.sorts.SVar.{SVar};
-ghost use Rattle.ath_terms.specs.Tree.{atom};
+ghost use Rattle.ath_trees.specs.Tree.{atom};
 ghost use Rattle.ath_terms.specs.Trees.{term_at, sort_at, Grows, IsSent};
-ghost use Rattle.ath_terms.specs.Measure.{IsSmall};
+ghost use Rattle.ath_trees.specs.Measure.{IsSmall};
 ghost use Rattle.ath_terms.specs.SortsIn.{IsSortedIn};
-ghost use Rattle.ath_terms.specs.Variables.{with_term};
-ghost use Rattle.ath_terms.specs.Under.{term_under, sent_under};
-ghost use Rattle.ath_terms.specs.WellSorted.{is_valid_sort};
+ghost use Rattle.ath_trees.specs.Variables.{with_term};
+ghost use Rattle.ath_trees.specs.Under.{term_under, sent_under};
+ghost use Rattle.ath_trees.specs.WellSorted.{is_valid_sort};
 ghost use Rattle.ath_terms.specs.Construction.{variable_pairs, term_measure, ascription_plan, IsClashAt, MatchMeasured, MatchTerm, MatchAtom, MatchBoolean};
 
 use crate::construction::apply::{is_term_within, term_under};
@@ -18,10 +18,11 @@ use crate::construction::limits::check_limits;
 use crate::construction::pairs::{add_pair, add_variable_pairs, clash, solve};
 use crate::construction::variables::add_term_vars;
 use crate::measure::{BuildError, term_depth, term_size};
-use crate::node::{SentId, SentNode, TermId};
+use crate::node::SentNode;
 use crate::store::Store;
 use ath_sorts::sorts::BOOLEAN;
 use ath_sorts::{Sort, SortSubst, UnifyError, unify};
+use ath_trees::{SentId, TermId};
 use sqlite_items::Items;
 use std::alloc::{AllocError, Global};
 

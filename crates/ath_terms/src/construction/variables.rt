@@ -4,11 +4,12 @@ ghost use Rattle.std.specs.Prelude.{◌≡◌, ◌<◌, length, filter, not, IfO
 ghost use Rattle.std.specs.List.{list_any};
 ghost use Rattle.ath_sorts.specs.Unifiers.{same_sort};
 ghost use Rattle.ath_terms.specs.Trees.{term_at, sent_at};
-ghost use Rattle.ath_terms.specs.Variables.{is_namesake, same_var, with_var, with_vars, with_term, with_sent, term_vars, free_vars};
+ghost use Rattle.ath_trees.specs.Variables.{is_namesake, same_var, with_var, with_vars, with_term, with_sent, term_vars, free_vars};
 
-use crate::node::{SentId, SentNode, TermId, TermNode, Var};
+use crate::node::{SentNode, TermNode};
 use crate::store::Store;
 use ath_sorts::sorts::{copied, is_same};
+use ath_trees::{SentId, TermId, Var};
 use std::alloc::{AllocError, Global};
 
 /// Whether two variables have one name and one index.

@@ -1,5 +1,5 @@
 use Rattle.std.proofs.Common.{List, sym, ap}
-use Rattle.ath_terms.specs.declared.node.SentId.{SentId}
+use Rattle.ath_trees.specs.declared.node.SentId.{SentId}
 use Rattle.ath_eval.specs.Base.{sents_of}
 use Rattle.ath_eval.specs.Evaluation.{most_nested}
 use Rattle.ath_eval.specs.Outcomes.{Context}

@@ -1,4 +1,4 @@
-use Rattle.ath_terms.specs.WellSorted.{var_has}
+use Rattle.ath_trees.specs.WellSorted.{var_has}
 use Rattle.ath_eval.proofs.names.variable_of.Goals as goal
 
 pub returns-clause-sorted : goal.returns-clause-sorted

@@ -1,13 +1,13 @@
 use Rattle.std.proofs.Common.{◌≡◌, ◌≤◌, List, ◌∷◌, ◌++◌, map, None, refl, subst, arith}
 use Rattle.ath_sorts.specs.declared.sorts.Sym.{Sym}
-use Rattle.ath_automaton.specs.declared.tree.PatternTree.{PatternTree}
-use Rattle.ath_automaton.specs.declared.tree.PhraseTree.{PhraseTree}
-use Rattle.ath_automaton.specs.Trees.{phrase_of, phrases_of}
-use Rattle.ath_automaton.specs.declared.tree.PhraseTree.TheFolds.{the_lemmas}
-use Rattle.ath_automaton.proofs.tree.PhraseTree.TheLaws.{the_size}
+use Rattle.ath_numbering.specs.declared.tree.PatternTree.{PatternTree}
+use Rattle.ath_numbering.specs.declared.tree.PhraseTree.{PhraseTree}
+use Rattle.ath_numbering.specs.Trees.{phrase_of, phrases_of}
+use Rattle.ath_numbering.specs.declared.tree.PhraseTree.TheFolds.{the_lemmas}
+use Rattle.ath_numbering.proofs.tree.PhraseTree.TheLaws.{the_size}
 use Rattle.ath_syntax.proofs.Growth.{Grows-trans}
 use Rattle.ath_syntax.proofs.Kept.{keep_phrase, keep_pattern_number}
-use Rattle.ath_numbering.specs.Proper.{ProperPhrases, ProperBindings, ProperClauses, ProperBranches}
+use Rattle.ath_syntax.specs.Proper.{ProperPhrases, ProperBindings, ProperClauses, ProperBranches}
 use Rattle.ath_numbering.proofs.Depths.{most_phrases, most_bindings, most_clauses, most_branches, deeper}
 use Rattle.ath_numbering.proofs.FormLaws.{list_parts, try_parts, seq_parts}
 use Rattle.ath_numbering.proofs.PhraseLists.{bindings_read, clauses_read, branches_read, phrases_listed, bindings_listed, clauses_listed, branches_listed, proper_phrase_among, proper_binding_among, proper_clause_among, proper_branch_among}

@@ -1,5 +1,5 @@
 use Rattle.std.proofs.Common.{◌+◌, ◌*◌, length}
-use Rattle.ath_automaton.proofs.tree.PhraseTree.TheLaws.{the_size}
+use Rattle.ath_numbering.proofs.tree.PhraseTree.TheLaws.{the_size}
 use Rattle.ath_numbering.proofs.Listings.{Taken}
 use Rattle.ath_numbering.proofs.Depths.{most_phrases, most_bindings, most_clauses, most_branches, most_otherwise, deeper}
 use Rattle.ath_numbering.proofs.PhraseLists.{phrases_listed, bindings_listed, clauses_listed, branches_listed}

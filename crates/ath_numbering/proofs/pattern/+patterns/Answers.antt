@@ -1,8 +1,8 @@
 use Rattle.std.proofs.Common.{◌≡◌, ◌≤◌, List, ◌∷◌, ◌++◌, map, subst, arith}
-use Rattle.ath_automaton.specs.Trees.{pattern_of, patterns_of}
-use Rattle.ath_automaton.specs.declared.tree.PatternTree.{PatternTree}
-use Rattle.ath_automaton.proofs.tree.PatternTree.TheLaws.{the_size}
-use Rattle.ath_numbering.specs.Proper.{ProperPatterns}
+use Rattle.ath_numbering.specs.Trees.{pattern_of, patterns_of}
+use Rattle.ath_numbering.specs.declared.tree.PatternTree.{PatternTree}
+use Rattle.ath_numbering.proofs.tree.PatternTree.TheLaws.{the_size}
+use Rattle.ath_syntax.specs.Proper.{ProperPatterns}
 use Rattle.ath_numbering.proofs.Listings.{Taken-none, Taken-more, Taken-split, Taken-smaller}
 use Rattle.ath_numbering.proofs.PatternLaws.{pattern_fits, proper_among, patterns_listed}
 use Rattle.ath_numbering.proofs.pattern.+patterns.Goals as goal

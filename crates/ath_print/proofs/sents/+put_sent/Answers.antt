@@ -1,6 +1,6 @@
 use Rattle.std.proofs.Common.{map, length, ap, ◌∙◌, arith}
 use Rattle.std.proofs.lemmas.List.{map-append}
-use Rattle.ath_terms.specs.declared.node.SentId.{SentId}
+use Rattle.ath_trees.specs.declared.node.SentId.{SentId}
 use Rattle.ath_terms.specs.Trees.{sent_at}
 use Rattle.ath_print.specs.Prefix.{sent_printed}
 use Rattle.ath_print.specs.Printers.{printed_in}

@@ -1,5 +1,5 @@
 use Rattle.std.proofs.Common.{◌≡◌, drop, map}
-use Rattle.ath_terms.specs.declared.node.SentId.{SentId}
+use Rattle.ath_trees.specs.declared.node.SentId.{SentId}
 use Rattle.ath_terms.specs.Trees.{sent_at}
 use Rattle.ath_print.specs.Printers.{spaced, printed_in, after}
 use Rattle.ath_print.specs.Prefix.{sent_printed}

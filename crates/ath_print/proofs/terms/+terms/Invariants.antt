@@ -1,5 +1,5 @@
 use Rattle.std.proofs.Common.{◌≡◌, ◌+◌, ◌*◌, drop, map}
-use Rattle.ath_terms.specs.declared.node.TermId.{TermId}
+use Rattle.ath_trees.specs.declared.node.TermId.{TermId}
 use Rattle.ath_terms.specs.Trees.{term_at}
 use Rattle.ath_print.specs.Printers.{spaced, printed_in, after}
 use Rattle.ath_print.specs.Prefix.{term_printed}

@@ -1,6 +1,6 @@
 use Rattle.std.proofs.Common.{◌≡◌, drop, map}
 use Rattle.std.specs.List.{list_any}
-use Rattle.ath_terms.specs.Variables.{same_var}
+use Rattle.ath_trees.specs.Variables.{same_var}
 use Rattle.ath_print.proofs.terms.is_bound.Given as goal
 
 abbrev pub invariant-loop-binder : goal.invariant-loop-binder

@@ -1,5 +1,5 @@
 use Rattle.std.proofs.Common.{Option, Some, Ok, subst}
-use Rattle.ath_automaton.specs.declared.tree.DirectiveTree.{DirectiveTree}
+use Rattle.ath_numbering.specs.declared.tree.DirectiveTree.{DirectiveTree}
 use Rattle.ath_reader.specs.Steps.{ReadsTree}
 use Rattle.ath_reader.proofs.Numbered.{found_is_proper, found_numbered, found_wants}
 use Rattle.ath_reader.proofs.reader.read_directive.Goals as goal

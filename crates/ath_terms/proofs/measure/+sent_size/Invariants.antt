@@ -1,6 +1,6 @@
 use Rattle.std.proofs.Common.{◌≡◌, ◌+◌, take}
 use Rattle.ath_terms.specs.Trees.{sent_at}
-use Rattle.ath_terms.specs.Measure.{sent_size}
+use Rattle.ath_trees.specs.Measure.{sent_size}
 use Rattle.ath_terms.proofs.Measures.{total}
 use Rattle.ath_terms.proofs.measure.+sent_size.Given as goal
 

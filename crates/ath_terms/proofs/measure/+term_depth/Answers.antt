@@ -1,6 +1,6 @@
 use Rattle.std.proofs.Common.{arith}
 use Rattle.ath_terms.specs.Trees.{term_at}
-use Rattle.ath_terms.specs.Measure.{term_depth}
+use Rattle.ath_trees.specs.Measure.{term_depth}
 use Rattle.ath_terms.proofs.Measures.{most-next, most-within, most-all, term-depth-is, term-part-below}
 use Rattle.ath_terms.proofs.measure.+term_depth.Goals as goal
 

@@ -1,6 +1,6 @@
 use Rattle.std.proofs.Common.{arith}
 use Rattle.ath_terms.specs.Trees.{term_at}
-use Rattle.ath_terms.specs.Measure.{term_size}
+use Rattle.ath_trees.specs.Measure.{term_size}
 use Rattle.ath_terms.proofs.Measures.{total-next, total-within, total-all, term-size-is, term-part-below}
 use Rattle.ath_terms.proofs.measure.+term_size.Goals as goal
 

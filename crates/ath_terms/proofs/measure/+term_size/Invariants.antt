@@ -1,6 +1,6 @@
 use Rattle.std.proofs.Common.{◌≡◌, ◌+◌, take}
 use Rattle.ath_terms.specs.Trees.{term_at}
-use Rattle.ath_terms.specs.Measure.{term_size}
+use Rattle.ath_trees.specs.Measure.{term_size}
 use Rattle.ath_terms.proofs.Measures.{total}
 use Rattle.ath_terms.proofs.measure.+term_size.Given as goal
 

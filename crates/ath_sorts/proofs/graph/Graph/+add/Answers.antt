@@ -1,5 +1,6 @@
 use Rattle.std.proofs.Common.{sym, ◌∙◌, ap, subst, List, ◌++◌, ◌∷◌, [], take, ℕ}
 use Rattle.std.proofs.lemmas.List.{take_more, take_all}
+use Rattle.ath_sorts.specs.declared.graph.Graph.{Graph}
 use Rattle.ath_sorts.specs.declared.sorts.Sort.{Sort, Con}
 use Rattle.ath_sorts.specs.Graphs.{AddsSort, AddsSorts}
 use Rattle.ath_sorts.proofs.GraphGrowth.{adds_more, adds_con}
@@ -17,7 +18,8 @@ loop-arg-preserved t c =
 pub returns-in_ok-added-in-Con : goal.returns-in_ok-added-in-Con
 returns-in_ok-added-in-Con t c =
     let args = c.as_slice-arg-items.result.now in
+    let new : Graph = record { nodes = c.push_branch.new.self; class = c.push-in-Con.new.self } in
     let h = subst (λ (ss : List Sort). AddsSorts c.args.self.now c.loop-arg.self ss c.loop-arg.children) (take_all c.loop-arg.arg-index args c.loop-arg-test.false) c.loop-arg.invariant in
     let p = c.in_ok-added-in-Con.ensures in
-    let r = adds_con c.args.self.now c.loop-arg.self c.push-in-Con.new.self c.in-Con.name args c.loop-arg.children c.in_ok-added-in-Con.added h p.at p.nodes p.class in
-    subst (λ (s : Sort). AddsSort c.args.self.now c.push-in-Con.new.self s c.in_ok-added-in-Con.added) (ap (Con c.in-Con.name) c.as_slice-arg-items.ensures ∙ sym c.in-Con.is) r
+    let r = adds_con c.args.self.now c.loop-arg.self new c.in-Con.name args c.loop-arg.children c.in_ok-added-in-Con.added h (p.at ∙ (h.grows.graph c.requires).even) c.in_ok-push_branch-in-Con.ensures p.class in
+    subst (λ (s : Sort). AddsSort c.args.self.now new s c.in_ok-added-in-Con.added) (ap (Con c.in-Con.name) c.as_slice-arg-items.ensures ∙ sym c.in-Con.is) r

@@ -1,7 +1,7 @@
 use Rattle.std.proofs.Common.{sym, ◌∙◌, slice_get, subst, ℕ, ◌≤◌, ◌-◌, arith, inl, inr, Option, List, get_or}
 use Rattle.std.specs.Option.{SomeIff}
 use Rattle.ath_sorts.specs.Sorts.{size_of, depth_of}
-use Rattle.ath_sorts.specs.declared.graph.Node.{Node}
+use Rattle.ath_sorts.specs.declared.nodes.Node.{Node}
 use Rattle.ath_sorts.specs.Graphs.{IsNoBranch}
 use Rattle.ath_sorts.proofs.Gets.{get-from-or}
 use Rattle.ath_sorts.proofs.GraphSizes.{turn, all_turns, turn_fails, leaf_fits, leaf-tree, has_size}

@@ -1,7 +1,7 @@
 use Rattle.std.proofs.Common.{sym, ◌∙◌, ap, subst, Some, List, [], ◌∷◌, ◌++◌, ℕ, take, get_or, arith}
 use Rattle.std.proofs.lemmas.List.{take_more, take_all}
 use Rattle.ath_sorts.specs.declared.sorts.Sort.{Sort, Var, Con}
-use Rattle.ath_sorts.specs.declared.graph.Node.TheVariants.{Branch}
+use Rattle.ath_sorts.specs.declared.nodes.Node.TheVariants.{Branch}
 use Rattle.ath_sorts.specs.Graphs.{AllGrow, nothing, leaf, branch}
 use Rattle.ath_sorts.proofs.Gets.{get-from-or}
 use Rattle.ath_sorts.proofs.GraphSizes.{head_is, child_tree, all_snoc, has_size}

@@ -1,5 +1,5 @@
 use Rattle.std.proofs.Common.{sym, ◌∙◌, ap, subst, slice_get, List, ◌+◌}
-use Rattle.ath_sorts.specs.declared.graph.Node.{Node}
+use Rattle.ath_sorts.specs.declared.nodes.Node.{Node}
 use Rattle.ath_sorts.specs.declared.sorts.SVar.{SVar}
 use Rattle.ath_sorts.specs.declared.sorts.Sort.{Sort}
 use Rattle.ath_sorts.specs.Graphs.{IsSolution}

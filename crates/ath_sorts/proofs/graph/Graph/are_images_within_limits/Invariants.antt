@@ -1,5 +1,5 @@
 use Rattle.std.proofs.Common.{◌≡◌, ℕ, ◌<◌, slice_get, Some, IsTrue}
-use Rattle.ath_sorts.specs.declared.graph.Node.TheVariants.{Leaf}
+use Rattle.ath_sorts.specs.declared.nodes.Node.TheVariants.{Leaf}
 use Rattle.ath_sorts.specs.declared.sorts.SVar.{SVar}
 use Rattle.ath_sorts.specs.declared.sorts.Sort.{Sort}
 use Rattle.ath_sorts.specs.Limits.{is_small}

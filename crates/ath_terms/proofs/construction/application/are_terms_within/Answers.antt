@@ -1,8 +1,8 @@
 use Rattle.std.proofs.Common.{sym, ◌∙◌, arith}
 use Rattle.ath_sorts.specs.Sorts.{image}
 use Rattle.ath_terms.specs.Trees.{term_at}
-use Rattle.ath_terms.specs.SortsIn.{has_small_sorts}
-use Rattle.ath_terms.specs.Under.{term_under}
+use Rattle.ath_trees.specs.SortsIn.{has_small_sorts}
+use Rattle.ath_trees.specs.Under.{term_under}
 use Rattle.ath_terms.proofs.WithinLaws.{within-next, within-fails, within-all}
 use Rattle.ath_terms.proofs.ListLaws.{list_within}
 use Rattle.ath_terms.proofs.construction.application.are_terms_within.Goals as goal

@@ -4,7 +4,7 @@ use Rattle.std.proofs.lemmas.Result.{err_from_is_err_and}
 use Rattle.ath_sorts.specs.declared.sorts.SVar.TheVariants.{Written}
 use Rattle.ath_sorts.specs.Sorts.{image}
 use Rattle.ath_terms.specs.Construction.{made_sorts}
-use Rattle.ath_terms.specs.Tree.{listed}
+use Rattle.ath_trees.specs.Tree.{listed}
 use Rattle.ath_terms.specs.Trees.{term_at}
 use Rattle.ath_terms.proofs.ListLaws.{made-counts}
 use Rattle.ath_terms.proofs.ApplicationLaws.{app-unsolved, app-unmeasured, app-built, app-valid, app-sorted, these-measured}

@@ -5,7 +5,7 @@ use Rattle.std.proofs.Common.{◌≡◌, true, take}
 use Rattle.ath_terms.specs.Lists.{AreTerms}
 use Rattle.ath_terms.specs.SortsIn.{IsSortedIn}
 use Rattle.ath_terms.specs.Trees.{Grows}
-use Rattle.ath_terms.specs.WellSorted.{is_valid_sort}
+use Rattle.ath_trees.specs.WellSorted.{is_valid_sort}
 use Rattle.ath_terms.proofs.StepLaws.{images_of}
 use Rattle.ath_terms.proofs.construction.application.terms_under.Given as goal
 

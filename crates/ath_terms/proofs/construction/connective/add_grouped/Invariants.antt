@@ -4,8 +4,8 @@ use Rattle.ath_sorts.specs.Sorts.{image}
 use Rattle.ath_sorts.specs.declared.sorts.SVar.{SVar}
 use Rattle.ath_terms.specs.SortsIn.{IsSortedIn}
 use Rattle.ath_terms.specs.Trees.{Grows, IsSent}
-use Rattle.ath_terms.specs.Under.{sent_under}
-use Rattle.ath_terms.specs.WellSorted.{is_valid_sort}
+use Rattle.ath_trees.specs.Under.{sent_under}
+use Rattle.ath_trees.specs.WellSorted.{is_valid_sort}
 use Rattle.ath_terms.proofs.GroupLaws.{group_from}
 use Rattle.ath_terms.proofs.construction.connective.add_grouped.Given as goal
 

@@ -1,8 +1,8 @@
 use Rattle.std.proofs.Common.{sym, ◌∙◌, arith}
 use Rattle.ath_sorts.specs.Sorts.{image}
 use Rattle.ath_terms.specs.Trees.{sent_at}
-use Rattle.ath_terms.specs.SortsIn.{sent_has_small_sorts}
-use Rattle.ath_terms.specs.Under.{sent_under}
+use Rattle.ath_trees.specs.SortsIn.{sent_has_small_sorts}
+use Rattle.ath_trees.specs.Under.{sent_under}
 use Rattle.ath_terms.proofs.SentWithin.{all-next, all-fails, all-all}
 use Rattle.ath_terms.proofs.construction.connective.are_sents_within.Goals as goal
 

@@ -1,5 +1,5 @@
 use Rattle.std.proofs.Common.{◌≡◌, ◌+◌, take}
-use Rattle.ath_terms.specs.Measure.{sent_size}
+use Rattle.ath_trees.specs.Measure.{sent_size}
 use Rattle.ath_terms.specs.Trees.{sent_at}
 use Rattle.ath_terms.proofs.Measures.{total}
 use Rattle.ath_terms.proofs.construction.connective.grouped_size.Given as goal

@@ -1,6 +1,6 @@
 use Rattle.std.proofs.Common.{◌≡◌, drop}
 use Rattle.std.specs.Prelude.{find}
-use Rattle.ath_terms.specs.Variables.{is_namesake}
+use Rattle.ath_trees.specs.Variables.{is_namesake}
 use Rattle.ath_terms.proofs.construction.pairs.first_namesake.Given as goal
 
 abbrev pub invariant-loop-w : goal.invariant-loop-w

@@ -1,5 +1,5 @@
 use Rattle.std.proofs.Common.{map}
-use Rattle.ath_terms.specs.Tree.{app, listed}
+use Rattle.ath_trees.specs.Tree.{app, listed}
 use Rattle.ath_terms.specs.Trees.{term_at}
 use Rattle.ath_terms.proofs.ApplicationLaws.{app-has}
 use Rattle.ath_terms.proofs.construction.plain.add_plain.Goals as goal

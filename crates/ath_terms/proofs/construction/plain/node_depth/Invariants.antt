@@ -1,5 +1,5 @@
 use Rattle.std.proofs.Common.{◌≡◌, ◌≤◌, take}
-use Rattle.ath_terms.specs.Measure.{sent_depth}
+use Rattle.ath_trees.specs.Measure.{sent_depth}
 use Rattle.ath_terms.specs.Trees.{sent_at}
 use Rattle.ath_terms.proofs.Measures.{most}
 use Rattle.ath_terms.proofs.construction.plain.node_depth.Given as goal

@@ -1,7 +1,7 @@
 use Rattle.std.proofs.Common.{◌∙◌, sym, ap, arith}
 use Rattle.ath_sorts.specs.Sorts.{image}
-use Rattle.ath_terms.specs.Tree.{bound}
-use Rattle.ath_terms.specs.Under.{sent_under}
+use Rattle.ath_trees.specs.Tree.{bound}
+use Rattle.ath_trees.specs.Under.{sent_under}
 use Rattle.ath_terms.proofs.Grow.{grows-then}
 use Rattle.ath_terms.proofs.SentLaws.{atom_node, equation_node, conn_node, bound_node, atom_sort, equation_sorts, sent_has, conn-step, conn-tree, conn-below}
 use Rattle.ath_terms.proofs.construction.sentence.+sent_under.Goals as goal

@@ -5,7 +5,7 @@ use Rattle.std.proofs.Common.{◌≡◌, true, take}
 use Rattle.ath_terms.specs.Lists.{AreSents}
 use Rattle.ath_terms.specs.SortsIn.{IsSortedIn}
 use Rattle.ath_terms.specs.Trees.{Grows}
-use Rattle.ath_terms.specs.WellSorted.{is_valid_sort}
+use Rattle.ath_trees.specs.WellSorted.{is_valid_sort}
 use Rattle.ath_terms.proofs.SentLaws.{sent_images_of}
 use Rattle.ath_terms.proofs.construction.sentence.+sent_under.Given as goal
 

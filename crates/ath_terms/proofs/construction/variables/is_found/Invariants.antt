@@ -1,6 +1,6 @@
 use Rattle.std.proofs.Common.{◌≡◌, drop}
 use Rattle.std.specs.List.{list_any}
-use Rattle.ath_terms.specs.Variables.{same_var}
+use Rattle.ath_trees.specs.Variables.{same_var}
 use Rattle.ath_terms.proofs.construction.variables.is_found.Given as goal
 
 abbrev pub invariant-loop-w : goal.invariant-loop-w

@@ -1,9 +1,0 @@
-pub mod BranchLaws
-pub mod ClauseLaws
-pub mod DeliverLaws
-pub mod NameLaws
-pub mod PatternLaws
-pub mod RowLaws
-pub mod Rows
-pub mod SmallLaws
-pub mod Turns

@@ -1,4 +1,0 @@
-pub mod Calm
-pub mod Configs
-pub mod Landings
-pub mod Trees

@@ -1,3 +1,0 @@
-pub mod CheckLaws
-pub mod ClauseLaws
-pub mod StateLaws

@@ -1,0 +1,45 @@
+-- The table of the variables' nodes.
+use Rattle.std.proofs.Common.{◌≡◌, ℕ, Bool, true, false, cond, refl, ◌++◌, ◌∷◌, [], List, length, slice_get, Some, sym, ◌∙◌, ap, subst, inl, inr}
+use Rattle.std.specs.Map.{lookup}
+use Rattle.ath_sorts.specs.declared.nodes.Node.{Node}
+use Rattle.ath_sorts.specs.declared.nodes.Node.TheVariants.{Leaf}
+use Rattle.ath_sorts.specs.contracts.sorts.SVarPartialEq.TheImpl as derived
+use Rattle.ath_sorts.specs.declared.sorts.SVar.{SVar}
+use Rattle.ath_sorts.specs.declared.sorts.SVar.TheVariants.{Written, Made}
+use Rattle.ath_sorts.specs.Places.{HasPlaces, LeafFree}
+use Rattle.ath_sorts.specs.Sorts.{same_svar}
+use Rattle.ath_sorts.proofs.Gets.{get-last}
+use Rattle.ath_sorts.proofs.GraphTrees.{leaf-inj}
+use Rattle.ath_sorts.proofs.SortLaws.{same_svar-true, same_svar-refl, same-or-not}
+
+module _ (nodes : List Node) (places more : List (SVar × ℕ)) (v : SVar) (h : HasPlaces nodes places) (free : LeafFree nodes v) (filed : (q : SVar) → lookup (same_svar q) more ≡ cond (same_svar v q) (Some (length nodes)) (lookup (same_svar q) places)) where
+  -- a variable without a node may be filed
+  pub places_kept : HasPlaces nodes more
+  places_kept i w k = elim (same-or-not v w) [
+    | inl e ↦ absurd (free i (k ∙ ap (λ u. Some (Leaf u)) (sym (same_svar-true v w e))))
+    | inr e ↦ filed w ∙ ap (λ b. cond b (Some (length nodes)) (lookup (same_svar w) places)) e ∙ h i w k
+  ]
+
+  pub places_more : HasPlaces (nodes ++ Leaf v ∷ []) more
+  places_more i w k = elim (get-last nodes (Leaf v) i (Leaf w) k) [
+    | inl p ↦ places_kept i w p.1
+    | inr p ↦
+        let e = leaf-inj v w (ap Some p.1) in
+        filed w ∙ ap (λ b. cond b (Some (length nodes)) (lookup (same_svar w) places)) (ap (same_svar v) (sym e) ∙ same_svar-refl v) ∙ ap Some (sym p.0)
+  ]
+
+-- the table finds variables by the equality that is derived
+derived_same : (a b : SVar) → derived.ghosts.eq a b ≡ same_svar a b
+derived_same (Written a) (Written b) = refl
+derived_same (Written a) (Made n) = refl
+derived_same (Made m) (Written b) = refl
+derived_same (Made m) (Made n) = refl
+
+lookup_same : {X : Type 0} (t u : SVar → Bool) (es : List (SVar × X)) → ((k : SVar) → t k ≡ u k) → lookup t es ≡ lookup u es
+lookup_same t u [] e = refl
+lookup_same t u (x ∷ es) e = λ i. cond (e x.0 i) (Some x.1) (lookup_same t u es e i)
+
+pub filed_at : (places more : List (SVar × ℕ)) (v : SVar) (at : ℕ) (nodes : List Node) → ((q : SVar) → lookup (derived.ghosts.eq q) more ≡ cond (derived.ghosts.eq v q) (Some at) (lookup (derived.ghosts.eq q) places)) → at ≡ length nodes → (q : SVar) → lookup (same_svar q) more ≡ cond (same_svar v q) (Some (length nodes)) (lookup (same_svar q) places)
+filed_at places more v at nodes h e q =
+    sym (lookup_same (derived.ghosts.eq q) (same_svar q) more (derived_same q)) ∙ h q
+    ∙ (λ i. cond (derived_same v q i) (Some (e i)) (lookup_same (derived.ghosts.eq q) (same_svar q) places (derived_same q) i))

@@ -1,0 +1,14 @@
+pub mod SameLaws
+pub mod ValidSorts
+pub mod Growth
+pub mod UnderLaws
+pub mod Occurring
+pub mod Renaming
+pub mod SubstLaws
+pub mod SortUnderLaws
+pub mod ClosingLaws
+pub mod Forms
+pub mod InstanceLaws
+pub mod BindingLaws
+pub mod Sorting
+mod Rows

@@ -1,0 +1,16 @@
+pub mod Tree
+pub mod Code
+pub mod Same
+pub mod Measure
+pub mod WellSorted
+pub mod SortsIn
+pub mod Variables
+pub mod Under
+pub mod Occurrences
+pub mod Nameless
+pub mod Substitution
+pub mod SortUnder
+pub mod Closing
+pub mod Instance
+pub mod Binding
+pub mod Laws

@@ -1,0 +1,123 @@
+#!/usr/bin/env python3
+"""The examples of docs/ERRORS.md, which are a test of the gate as well.
+
+    tools/examples.py --table           writes the test, crates/ath_session/src/examples.rt
+    tools/examples.py --check           is the test that of the document? (status 1 where it isn't)
+    tools/examples.py --run PROGRAM     runs each example by PROGRAM, and compares what it prints
+
+An example is a block ```athena, a whole file x.ath, and behind it a block ```report, what the program
+prints. In a file `«a × 201»` stands for 201 times `a`, and `\\xHH` for a byte.
+"""
+import os
+import re
+import subprocess
+import sys
+import tempfile
+
+TOP = os.path.dirname(os.path.dirname(os.path.abspath(__file__)))
+DOCUMENT = os.path.join(TOP, "docs", "ERRORS.md")
+TABLE = os.path.join(TOP, "crates", "ath_session", "src", "examples.rt")
+BLOCKS = re.compile(r"^### (.*?)$|^```athena\n(.*?)^```\n```report\n(.*?)^```$", re.M | re.S)
+REPEATED = re.compile(r"«(.*?) × (\d+)»")
+
+
+def examples():
+    """The examples in order: heading, parts of the file with how often each stands, report."""
+    found, heading = [], ""
+    with open(DOCUMENT, encoding="utf-8") as file:
+        for block in BLOCKS.finditer(file.read()):
+            if block.group(1):
+                heading = block.group(1)
+                continue
+            parts, at = [], 0
+            for repeated in REPEATED.finditer(block.group(2)):
+                parts.append((block.group(2)[at:repeated.start()], 1))
+                parts.append((repeated.group(1), int(repeated.group(2))))
+                at = repeated.end()
+            parts.append((block.group(2)[at:], 1))
+            found.append((heading, [p for p in parts if p[0]], block.group(3)))
+    return found
+
+
+def bytes_of(text):
+    return re.sub(rb"\\x([0-9A-F]{2})", lambda byte: bytes([int(byte.group(1), 16)]), text.encode())
+
+
+def literal(text, mark):
+    text = re.sub(r"\\(?!x[0-9A-F]{2})", r"\\\\", text)
+    return '%s"%s"' % (mark, text.replace('"', '\\"').replace("\n", "\\n"))
+
+
+HEAD = """\
+// The examples of docs/ERRORS.md; tools/examples.py writes this file.
+
+use crate::Status;
+use crate::tests::expect_lines;
+use std::alloc::{AllocError, Global};
+use std::test::Fail;
+
+/// An example: the parts of its file, each with how often it stands there, and what is printed.
+type Example = (&'static [(&'static [u8], u64)], &'static str);
+
+/// The text that these parts make.
+fn text_of(alloc: Global, parts: &[(&[u8], u64)]) -> Result<Vec<u8>, AllocError> {
+    let mut text = Vec::new(alloc);
+    for (part, times) in parts {
+        for _ in 0..*times {
+            text.extend_from_slice(part)?;
+        }
+    }
+    Ok(text)
+}
+
+"""
+
+
+def table():
+    found = examples()
+    lines = [HEAD, "const EXAMPLES: [Example; %d] = [\n" % len(found)]
+    for heading, parts, report in found:
+        lines.append("    // %s\n    (\n        &[\n" % heading)
+        for text, times in parts:
+            lines.append("            (%s, %d),\n" % (literal(text, "b"), times))
+        lines.append("        ],\n        %s,\n    ),\n" % literal(report, ""))
+    lines.append("];\n\n#[test]\nfn the_examples_of_errors(rt: HostRuntime) -> Result<(), Fail> {\n")
+    lines.append("    for (parts, lines) in EXAMPLES {\n")
+    lines.append("        let text = text_of(rt.alloc(), parts)?;\n")
+    lines.append("        expect_lines(&rt, text.as_slice(), lines, Status::Errors)?;\n    }\n    Ok(())\n}\n")
+    return "".join(lines)
+
+
+def run(program):
+    bad = 0
+    for heading, parts, report in examples():
+        with tempfile.TemporaryDirectory() as folder:
+            with open(os.path.join(folder, "x.ath"), "wb") as file:
+                for text, times in parts:
+                    file.write(bytes_of(text) * times)
+            answer = subprocess.run([program, "x.ath"], cwd=folder, stdout=subprocess.PIPE)
+            if answer.stdout != report.encode() or answer.returncode != 1:
+                bad += 1
+                print("%s: prints\n%s" % (heading, answer.stdout.decode(errors="replace")[:400]))
+    print("%d examples, %d of them wrong" % (len(examples()), bad))
+    sys.exit(1 if bad else 0)
+
+
+def main():
+    if sys.argv[1:] == ["--table"]:
+        with open(TABLE, "w", encoding="utf-8") as file:
+            file.write(table())
+    elif sys.argv[1:] == ["--check"]:
+        with open(TABLE, encoding="utf-8") as file:
+            same = re.sub(r"[\s,]+", "", file.read()) == re.sub(r"[\s,]+", "", table())
+        if not same:
+            print("crates/ath_session/src/examples.rt: write it again by tools/examples.py --table")
+        sys.exit(0 if same else 1)
+    elif len(sys.argv) == 3 and sys.argv[1] == "--run":
+        run(os.path.abspath(sys.argv[2]))
+    else:
+        sys.exit(__doc__)
+
+
+if __name__ == "__main__":
+    main()

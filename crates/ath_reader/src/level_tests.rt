@@ -91,11 +91,13 @@ fn ends_at_500(
     paired: bool,
 ) -> Result<bool, Fail> {
     let (open, _, _, most, at) = row;
-    let left = if paired { 1 } else { 0 };
-    let into = if at == 0 { 0 } else { left + at };
-    let column = before.len() + (left + open.len()) * most + into + 1;
+    let left: usize = if paired { 1 } else { 0 };
+    let into: usize = if at == 0 { 0 } else { at.saturating_add(left) };
+    let one = open.len().saturating_add(left);
+    let column = one.saturating_mul(most).saturating_add(before.len());
+    let column = column.saturating_add(into).saturating_add(1);
     let fits = nested(alloc, row, paired, most)?;
-    let deep = nested(alloc, row, paired, most + 1)?;
+    let deep = nested(alloc, row, paired, most.saturating_add(1))?;
     let fits = format!(in alloc; "{before}{fits}{behind}")?;
     let deep = format!(in alloc; "{before}{deep}{behind}")?;
     let wanted = format!(in alloc; "TooDeep 1:{column} true")?;

@@ -8,7 +8,8 @@
 
 A table stands in a document behind a line `<!-- definitions: ROOT .. -->`. A root is a public
 function in code, as ath_session/src/top.rt:athena, whose contract is meant, or one clause of it, as
-ath_session/src/top.rt:athena#report, or a definition, as ath_session/specs/Theorems.antt:TheoremsFollow. A definition rests on each definition that its text
+ath_session/src/top.rt:athena#report, or a definition, as
+ath_session/specs/Theorems.antt:AreJustified. A definition rests on each definition that its text
 names and its file imports or has itself. Types and constants of the code are listed by file.
 """
 import os

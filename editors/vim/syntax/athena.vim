@@ -8,7 +8,7 @@ endif
 syntax iskeyword 36,38,39,42,43,45,47-57,60-90,94,95,97-122,126
 
 syntax match   athenaComment  "#.*$" contains=@Spell
-syntax region  athenaString   start=+"+ skip=+\\\\\|\\"+ end=+"+ oneline contains=athenaEscape
+syntax region  athenaString   start=+"+ skip=+\\\\\|\\"+ end=+"+ contains=athenaEscape
 syntax match   athenaEscape   +\\\(n\|t\|"\|\\\|x\x\x\)+ contained
 syntax match   athenaVariable "?[A-Za-z][^][ \t(){}:;,|!.\"#]*"
 syntax match   athenaSortVar  "'[A-Za-z][A-Za-z0-9_]*"
@@ -19,6 +19,7 @@ syntax keyword athenaDirective domain datatype declare define assert assert* loa
 syntax keyword athenaForm lambda method let dlet letrec match dmatch by-induction datatype-cases check try dbegin
 syntax keyword athenaForm assume suppose-absurd conclude pick-any pick-witness else list-of some-var some-term some-sent some-list
 syntax keyword athenaSymbol   not and or if iff forall exists true false
+syntax match   athenaSymbol   +\k\@<!\(=/=\|<==>\|==>\|<==\|=>\|->\)\k\@!+
 
 highlight default link athenaComment   Comment
 highlight default link athenaString    String

@@ -1,10 +1,9 @@
 -- The newest value, and lists with one more at their end.
-use Rattle.std.proofs.Common.{◌≡◌, List, [], ◌∷◌, ◌++◌, map, Bool, Option, Some, None, refl, sym, ◌∙◌, ap}
+use Rattle.std.proofs.Common.{◌≡◌, List, [], ◌∷◌, ◌++◌, map, Bool, Some, None, refl, sym, ◌∙◌, ap}
 use Rattle.ath_sorts.specs.declared.sorts.Sym.{Sym}
 use Rattle.ath_syntax.specs.declared.place.Pos.{Pos}
-use Rattle.ath_syntax.specs.Tree.{is_deduction, check_at, no_else, else_phrase, Pattern, Patterns, more_patterns, Phrase, Phrases, more_phrases, Bindings, more_bindings, Clauses, more_clauses, Branches, more_branches}
+use Rattle.ath_syntax.specs.Tree.{is_deduction, check_at, no_else, else_phrase, Patterns, more_patterns, Phrase, Phrases, more_phrases, Bindings, more_bindings, Clauses, more_clauses, Branches, more_branches, bound_names}
 use Rattle.ath_grammar.specs.Trees as T
-use Rattle.ath_syntax.specs.Proper.{bound_names}
 use Rattle.ath_grammar.specs.Trees.{last_deduces, add_pattern, add_phrase, add_binding, add_clause, add_branch}
 use Rattle.ath_numbering.specs.declared.tree.PatternTree.{PatternTree}
 use Rattle.ath_numbering.specs.declared.tree.LetWord.{LetWord}

@@ -1,7 +1,7 @@
 -- Lists of names.
 use Rattle.std.specs.Prelude.{List, [], ◌∷◌, ◌++◌, Bool, if◌then◌else◌}
 use Rattle.std.specs.List.{list_any}
-use Rattle.ath_syntax.specs.Fits.{same_name}
+use Rattle.ath_syntax.specs.Tree.{same_name}
 use Rattle.ath_sorts.specs.declared.sorts.Sym.{Sym}
 
 abbrev pub is_listed : Sym → List Sym → Bool

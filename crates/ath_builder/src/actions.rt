@@ -2,7 +2,7 @@
 
 ghost use Rattle.std.specs.Prelude.{◌≡◌, ◌∷◌, ◌++◌, [], None, Ok, IfOk, map};
 ghost use Rattle.ath_syntax.specs.Tree.{assert_is, check_at, no_else, else_phrase};
-ghost use Rattle.ath_grammar.specs.Trees.{act_on, a_phrase, a_pattern, binders, says, name_in, binders_in, v1, v2, v3, v4, rest, rest2, rest3, rest4, place_in, names_in, phrase_in, phrases_in, bindings_in, clauses_in, label_in, add_pattern, add_phrase, add_binding, add_clause, add_branch};
+ghost use Rattle.ath_grammar.specs.Trees.{act_on, a_phrase, a_pattern, binders, says, name_in, binders_in, v1, v2, v3, v4, rest, rest2, rest3, rest4, place_in, names_in, phrase_in, bindings_in, clauses_in, label_in, add_pattern, add_phrase, add_binding, add_clause, add_branch};
 ghost use Rattle.ath_numbering.specs.Trees.{pattern_of, patterns_of, phrase_of, phrases_of, statement_of, closure_at, let_phrase, clauses_at, hypothesis_at};
 ghost use Rattle.ath_builder.specs.Values.{value_of, held, rows_of, cases_of, pairs_of};
 

@@ -1,7 +1,7 @@
 // The place of a phrase.
 
 ghost use Rattle.std.specs.Prelude.{◌≡◌};
-ghost use Rattle.ath_grammar.specs.Trees.{place_of};
+ghost use Rattle.ath_syntax.specs.Places.{place};
 ghost use Rattle.ath_numbering.specs.Trees.{phrase_of};
 
 use ath_numbering::{ClauseWord, ClosureWord, HypothesisWord, LetWord, PhraseTree};
@@ -9,7 +9,7 @@ use ath_syntax::Pos;
 
 /// Where a phrase stands.
 pub fn place_of(tree: &PhraseTree) -> Pos
-    ensures { result ≡ place_of (phrase_of tree.now) }
+    ensures { result ≡ place (phrase_of tree.now) }
 {
     match tree {
         PhraseTree::Name(pos, _) => *pos,

@@ -2,8 +2,7 @@
 
 ghost use Rattle.std.specs.Prelude.{◌≡◌, ◌∷◌, [], IfOk, MatchOption, map};
 ghost use Rattle.std.specs.List.{list_any};
-ghost use Rattle.ath_syntax.specs.Fits.{same_name};
-ghost use Rattle.ath_syntax.specs.Tree.{name_at};
+ghost use Rattle.ath_syntax.specs.Tree.{name_at, same_name};
 ghost use Rattle.ath_grammar.specs.Tokens.{at};
 ghost use Rattle.ath_grammar.specs.Trees.{v1, rest, place_in, name_in, text_in, sort_in, sorts_in, pattern_in, patterns_in, names_in, phrase_in, phrases_in, bindings_in, clauses_in, branches_in, label_in, binders_in, constructors_in, parameters_in, named, variable, string, deduces, saved, may_stand, seen, no_place, no_name};
 ghost use Rattle.ath_numbering.specs.Trees.{pattern_of, patterns_of, phrase_of, phrases_of, directive_of};

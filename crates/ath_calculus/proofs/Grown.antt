@@ -1,4 +1,4 @@
--- What grows with a signature.
+-- What grows with a theory.
 use Rattle.std.proofs.Common.{◌≡◌, ℕ, suc, Bool, true, false, ◌&&◌, List, [], ◌∷◌, length, map, Option, Some, None, refl, sym, ◌∙◌, ap}
 use Rattle.std.specs.List.{list_all, AllByRecursion}
 use Rattle.ath_sorts.specs.declared.sorts.Sym.{Sym}
@@ -13,6 +13,7 @@ use Rattle.ath_trees.specs.Tree.{Term, Terms, Sent, atom, equal, negated, joined
 use Rattle.ath_trees.specs.WellSorted.{has_arity, valid_step, is_valid_sort, HasSort, var_has, app_has, HaveSorts, none_has, more_has, IsWellSorted, AreWellSorted}
 use Rattle.ath_calculus.specs.Derives.{Derives, axiom_of, if_elim}
 use Rattle.ath_calculus.specs.Laws.{Extends, AreIn}
+use Rattle.ath_calculus.specs.Theory.{Theory}
 
 both : (a b : Bool) → a && b ≡ true → (a ≡ true) × (b ≡ true)
 both true b e = (refl, e)
@@ -31,49 +32,49 @@ valid-var sig v = ap (is_valid_sort sig) (sym (rolls-Var v)) ∙ fold-roll-Sort 
 valid-con : (sig : Signature) (c : Sym) (args : List Sort) → is_valid_sort sig (Con c args) ≡ has_arity (arity_of sig c) (length args) && list_all (λ b. b) (map (is_valid_sort sig) args)
 valid-con sig c args = ap (is_valid_sort sig) (sym (rolls-Con c args)) ∙ fold-roll-Sort Bool (valid_step sig) (one.Con c args) ∙ ap (λ (n : ℕ). has_arity (arity_of sig c) n && list_all (λ b. b) (map (is_valid_sort sig) args)) (length-map (is_valid_sort sig) args)
 
-module _ (old new : Signature) (grown : Extends old new) where
-  arity_grown : (c : Sym) (n : ℕ) → has_arity (arity_of old c) n ≡ true → has_arity (arity_of new c) n ≡ true
-  arity_grown c n h = go (arity_of old c) refl h
+module _ (old new : Theory) (grown : Extends old new) where
+  arity_grown : (c : Sym) (n : ℕ) → has_arity (arity_of old.signature c) n ≡ true → has_arity (arity_of new.signature c) n ≡ true
+  arity_grown c n h = go (arity_of old.signature c) refl h
     where
-      go : (o : Option ℕ) → arity_of old c ≡ o → has_arity o n ≡ true → has_arity (arity_of new c) n ≡ true
+      go : (o : Option ℕ) → arity_of old.signature c ≡ o → has_arity o n ≡ true → has_arity (arity_of new.signature c) n ≡ true
       go (Some k) e f = rw (grown.sorts c k e) f
       go None e f = absurd (cc)
 
   abbrev Kept : Sort → Type 0
-  Kept s = is_valid_sort old s ≡ true → is_valid_sort new s ≡ true
+  Kept s = is_valid_sort old.signature s ≡ true → is_valid_sort new.signature s ≡ true
 
-  all_kept : (args : List Sort) → AllByRecursion Kept args → list_all (λ b. b) (map (is_valid_sort old) args) ≡ true → list_all (λ b. b) (map (is_valid_sort new) args) ≡ true
+  all_kept : (args : List Sort) → AllByRecursion Kept args → list_all (λ b. b) (map (is_valid_sort old.signature) args) ≡ true → list_all (λ b. b) (map (is_valid_sort new.signature) args) ≡ true
   all_kept [] h e = refl
-  all_kept (s ∷ ss) h e = let p = both (is_valid_sort old s) _ e in and_true (is_valid_sort new s) _ (h.0 p.0) (all_kept ss h.1 p.1)
+  all_kept (s ∷ ss) h e = let p = both (is_valid_sort old.signature s) _ e in and_true (is_valid_sort new.signature s) _ (h.0 p.0) (all_kept ss h.1 p.1)
 
   pub sort_kept : (s : Sort) → Kept s
   sort_kept = sort_induction Kept
-      (λ v e. valid-var new v)
+      (λ v e. valid-var new.signature v)
       (λ c args h e.
-      let p = both (has_arity (arity_of old c) (length args)) _ (sym (valid-con old c args) ∙ e) in
-      valid-con new c args ∙ and_true _ _ (arity_grown c (length args) p.0) (all_kept args h p.1))
+      let p = both (has_arity (arity_of old.signature c) (length args)) _ (sym (valid-con old.signature c args) ∙ e) in
+      valid-con new.signature c args ∙ and_true _ _ (arity_grown c (length args) p.0) (all_kept args h p.1))
 
-  sorts_kept : (ss : List Sort) → list_all (is_valid_sort old) ss ≡ true → list_all (is_valid_sort new) ss ≡ true
+  sorts_kept : (ss : List Sort) → list_all (is_valid_sort old.signature) ss ≡ true → list_all (is_valid_sort new.signature) ss ≡ true
   sorts_kept [] e = refl
-  sorts_kept (s ∷ ss) e = let p = both (is_valid_sort old s) _ e in and_true (is_valid_sort new s) _ (sort_kept s p.0) (sorts_kept ss p.1)
+  sorts_kept (s ∷ ss) e = let p = both (is_valid_sort old.signature s) _ e in and_true (is_valid_sort new.signature s) _ (sort_kept s p.0) (sorts_kept ss p.1)
 
   mutual
-    pub term_kept : {t : Term} {s : Sort} → HasSort old t s → HasSort new t s
+    pub term_kept : {t : Term} {s : Sort} → HasSort old.signature t s → HasSort new.signature t s
     term_kept (var_has {v} e f) = var_has (sort_kept v.sort e) f
     term_kept (app_has {f} {sorts} {args} d e l v ts r) = app_has d (grown.symbols f d e) l (sorts_kept sorts v) (terms_kept ts) r
 
-    pub terms_kept : {ts : Terms} {ss : List Sort} → HaveSorts old ts ss → HaveSorts new ts ss
+    pub terms_kept : {ts : Terms} {ss : List Sort} → HaveSorts old.signature ts ss → HaveSorts new.signature ts ss
     terms_kept none_has = none_has
     terms_kept (more_has t ts) = more_has (term_kept t) (terms_kept ts)
 
-  pub sent_kept : (p : Sent) → IsWellSorted old p → IsWellSorted new p
+  pub sent_kept : (p : Sent) → IsWellSorted old.signature p → IsWellSorted new.signature p
   sent_kept (atom t) h = term_kept h
   sent_kept (equal s t) h = (h.0, (term_kept h.1.0, term_kept h.1.1))
   sent_kept (negated p) h = sent_kept p h
   sent_kept (joined c p q) h = (sent_kept p h.0, sent_kept q h.1)
   sent_kept (bound q v p) h = (sort_kept v.sort h.0, sent_kept p h.1)
 
-  pub sents_kept : (ps : List Sent) → AreWellSorted old ps → AreWellSorted new ps
+  pub sents_kept : (ps : List Sent) → AreWellSorted old.signature ps → AreWellSorted new.signature ps
   sents_kept [] h = tt
   sents_kept (p ∷ ps) h = (sent_kept p h.0, sents_kept ps h.1)
 
@@ -81,6 +82,6 @@ module _ (old new : Signature) (grown : Extends old new) where
   derivation_kept fewer others among (axiom_of {hyps} {p} h w i) = axiom_of (sents_kept hyps h) (sent_kept p w) (among p i)
   derivation_kept fewer others among (if_elim d e) = if_elim (derivation_kept fewer others among d) (derivation_kept fewer others among e)
 
-pub well_sorted : {sig : Signature} {asserted hyps : List Sent} {p : Sent} → Derives sig asserted hyps p → IsWellSorted sig p
+pub well_sorted : {th : Theory} {asserted hyps : List Sent} {p : Sent} → Derives th asserted hyps p → IsWellSorted th.signature p
 well_sorted (axiom_of h w i) = w
 well_sorted (if_elim d e) = (well_sorted d).1

@@ -2,21 +2,25 @@
 use Rattle.std.specs.Prelude.{◌≡◌, ℕ, List, Some}
 use Rattle.ath_sorts.specs.declared.sorts.Sym.{Sym}
 use Rattle.ath_sorts.specs.declared.signature.Symbol.{Symbol}
-use Rattle.ath_sorts.specs.Signature.{Signature, arity_of, symbol_of}
+use Rattle.ath_sorts.specs.Signature.{arity_of, symbol_of}
 use Rattle.ath_trees.specs.Tree.{Sent}
 use Rattle.ath_trees.specs.WellSorted.{IsWellSorted}
 use Rattle.ath_calculus.specs.Derives.{Derives, IsIn}
+use Rattle.ath_calculus.specs.Theory.{Theory, Datatype}
 
--- what the one signature has, the other has too
-pub record Extends (old new : Signature) : Type 0 where
-  pub sorts : (c : Sym) (n : ℕ) → arity_of old c ≡ Some n → arity_of new c ≡ Some n
-  pub symbols : (f : Sym) (d : Symbol) → symbol_of old f ≡ Some d → symbol_of new f ≡ Some d
+-- what the one theory has, the other has too
+pub record Extends (old new : Theory) : Type 0 where
+  pub sorts : (c : Sym) (n : ℕ) → arity_of old.signature c ≡ Some n → arity_of new.signature c ≡ Some n
+  pub symbols : (f : Sym) (d : Symbol) → symbol_of old.signature f ≡ Some d → symbol_of new.signature f ≡ Some d
+  pub datatypes : (d : Datatype) → IsIn d old.datatypes → IsIn d new.datatypes
 
 abbrev pub AreIn : List Sent → List Sent → Type 0
 AreIn some others = (p : Sent) → IsIn p some → IsIn p others
 
 abbrev pub Growth : Type 0
-Growth = (old new : Signature) (fewer more hyps : List Sent) (p : Sent) → Extends old new → AreIn fewer more → Derives old fewer hyps p → Derives new more hyps p
+Growth =
+    (old new : Theory) (fewer more hyps : List Sent) (p : Sent) → Extends old new → AreIn fewer more
+    → Derives old fewer hyps p → Derives new more hyps p
 
 abbrev pub WellSorted : Type 0
-WellSorted = (sig : Signature) (asserted hyps : List Sent) (p : Sent) → Derives sig asserted hyps p → IsWellSorted sig p
+WellSorted = (th : Theory) (asserted hyps : List Sent) (p : Sent) → Derives th asserted hyps p → IsWellSorted th.signature p

@@ -2,7 +2,7 @@
 
 ghost use Rattle.ath_calculus.specs.Laws.{Growth, WellSorted};
 
-/// A derivation stays one when the signature and the asserted sentences grow.
+/// A derivation stays one when the theory and the asserted sentences grow.
 pub fn growth()
     ensures { Growth }
 {}

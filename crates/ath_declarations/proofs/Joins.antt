@@ -2,25 +2,29 @@
 use Rattle.std.proofs.Common.{◌≡◌, ℕ, ◌<◌, ◌+◌, ◌==◌, ◌||◌, Bool, true, false, List, [], ◌∷◌, ◌++◌, length, get_or, take, drop, Option, Some, None, Result, Ok, Err, is_some, is_ok, cond, refl, sym, ◌∙◌, ap, subst, add-one, drop-cons, nat_lt, arith, is_err}
 use Rattle.std.proofs.lemmas.List.{take_more}
 use Rattle.ath_sorts.specs.declared.limits.TheConstants.{MOST_WIDTH}
+use Rattle.ath_sorts.specs.declared.signature.Flaw.{Flaw}
+use Rattle.ath_sorts.specs.declared.signature.Flaw.TheVariants.{Redeclared, TooWide, SortTooLarge}
 use Rattle.ath_sorts.specs.declared.signature.SigError.{SigError}
-use Rattle.ath_sorts.specs.declared.signature.SigError.TheVariants.{Redeclared, TooWide, UnknownSort, Arity, SortTooLarge, LooseParam, Memory}
 use Rattle.ath_sorts.specs.declared.sorts.Sym.{Sym}
 use Rattle.ath_sorts.specs.declared.signature.Symbol.{Symbol}
 use Rattle.ath_sorts.specs.declared.sorts.Sort.{Sort}
 use Rattle.ath_sorts.specs.Signature.{Signature, symbol_among, symbol_of}
-use Rattle.ath_sorts.specs.Declaring.{MatchFault, first_fault, fault_if, use_faults, all_small, loose_faults, symbol_fault, with_symbol}
+use Rattle.ath_sorts.specs.Declaring.{first_fault, fault_if, use_faults, all_small, loose_faults, symbol_fault, with_symbol}
+use Rattle.ath_sorts.specs.Answers.{MatchFault}
 use Rattle.ath_sorts.proofs.Bools.{turned, or-false}
 use Rattle.ath_sorts.proofs.ValidityLaws.{uses_kept}
+use Rattle.ath_declarations.specs.declared.declaring.DeclareError.{DeclareError}
+use Rattle.ath_declarations.specs.declared.declaring.DeclareError.TheVariants.{Flawed}
 use Rattle.ath_declarations.specs.Declarations.{joined}
 use Rattle.ath_declarations.specs.Steps.{has_name, first_taken, MatchTest}
 use Rattle.ath_declarations.specs.Texts.{unless}
 
 -- ---- a symbol that isn't refused
-pub first_none : (f : Option SigError) (fs : List (Option SigError)) → first_fault (f ∷ fs) ≡ None → (f ≡ None) × (first_fault fs ≡ None)
+pub first_none : (f : Option Flaw) (fs : List (Option Flaw)) → first_fault (f ∷ fs) ≡ None → (f ≡ None) × (first_fault fs ≡ None)
 first_none None fs h = (refl, h)
 first_none (Some e) fs h = absurd (cc)
 
-pub no_fault : (b : Bool) (e : SigError) → fault_if b e ≡ None → b ≡ false
+pub no_fault : (b : Bool) (e : Flaw) → fault_if b e ≡ None → b ≡ false
 no_fault true e h = absurd (cc)
 no_fault false e h = refl
 
@@ -31,7 +35,7 @@ module _ (params : List Sym) (args : List Sort) (result : Sort) where
   abbrev wide : Bool
   wide = nat_lt MOST_WIDTH (length params) || nat_lt MOST_WIDTH (length args)
 
-  abbrev large : Option SigError
+  abbrev large : Option Flaw
   large = cond (all_small sorts) None (Some SortTooLarge)
 
   -- the tests that don't speak of the name pass
@@ -66,7 +70,7 @@ module _ (params : List Sym) (args : List Sort) (result : Sort) where
       let e : symbol_fault sig n params args result ≡ first_fault (fault_if (is_some (symbol_of sig n)) (Redeclared n) ∷ None ∷ None ∷ None ∷ None ∷ []) = λ i. first_fault (fault_if (is_some (symbol_of sig n)) (Redeclared n) ∷ fault_if (w i) (TooWide n) ∷ u i ∷ z i ∷ l i ∷ []) in
       e ∙ only (fault_if (is_some (symbol_of sig n)) (Redeclared n))
     where
-      only : (f : Option SigError) → first_fault (f ∷ None ∷ None ∷ None ∷ None ∷ []) ≡ f
+      only : (f : Option Flaw) → first_fault (f ∷ None ∷ None ∷ None ∷ None ∷ []) ≡ f
       only None = refl
       only (Some e) = refl
 
@@ -92,7 +96,7 @@ module _ (params : List Sym) (args : List Sort) (result : Sort) where
   has_last (x ∷ names) m n = ap (λ b. n.0 == x.0 || b) (has_last names m n) ∙ sym (or_assoc (n.0 == x.0) (has_name names n) (n.0 == m.0))
 
   -- the outcome of a declaration, told by the name that is taken
-  abbrev pub Tells : Option Sym → Result Signature SigError → Type 0
+  abbrev pub Tells : Option Sym → Result Signature Flaw → Type 0
   Tells None outcome = is_ok outcome ≡ true
   Tells (Some n) outcome = outcome ≡ Err (Redeclared n)
 
@@ -113,7 +117,7 @@ module _ (params : List Sym) (args : List Sort) (result : Sort) where
     taken_tells [] seen sig h p = refl
     taken_tells (n ∷ names) seen sig h p = subst (λ f. Tells (first_taken first seen (n ∷ names)) (unless f rest)) (sym (name_fault sig n p)) (by (is_some (symbol_of sig n)) (sym (h n)) (taken_tells names (seen ++ n ∷ []) (with_symbol sig (named n)) (sees_more sig seen n h) (still sig (named n) p)))
       where
-        rest : Result Signature SigError
+        rest : Result Signature Flaw
         rest = joined (with_symbol sig (named n)) names params args result
 
         by : (b : Bool) → (is_some (symbol_of first n) || has_name seen n) ≡ b → Tells (first_taken first (seen ++ n ∷ []) names) rest → Tells (first_taken first seen (n ∷ names)) (unless (fault_if b (Redeclared n)) rest)
@@ -127,7 +131,7 @@ module _ (params : List Sym) (args : List Sort) (result : Sort) where
   tested sig [] d h f = absurd (omega arith)
   tested sig (n ∷ names) d h f = all_tested sig n names f
 
-  pub first_refused : (sig : Signature) (names : List Sym) (d : Sym) (e : SigError) → 0 < length names → symbol_fault sig (get_or names 0 d) params args result ≡ Some e → joined sig names params args result ≡ Err e
+  pub first_refused : (sig : Signature) (names : List Sym) (d : Sym) (e : Flaw) → 0 < length names → symbol_fault sig (get_or names 0 d) params args result ≡ Some e → joined sig names params args result ≡ Err e
   first_refused sig [] d e h f = absurd (omega arith)
   first_refused sig (n ∷ names) d e h f = ap (λ f. unless f (joined (with_symbol sig (named n)) names params args result)) f
 
@@ -143,7 +147,7 @@ module _ (params : List Sym) (args : List Sort) (result : Sort) where
       ap (λ (s : Signature). unless (symbol_fault s n params args result) (Ok (with_symbol s (named n)))) s ∙ ap (λ f. unless f (Ok (with_symbol sig (named n)))) f
   joined_last (m ∷ names) old sig n e f = by (symbol_fault old m params args result) e (λ e. joined_last names (with_symbol old (named m)) sig n e f)
     where
-      by : (g : Option SigError) → unless g (joined (with_symbol old (named m)) names params args result) ≡ Ok sig → (joined (with_symbol old (named m)) names params args result ≡ Ok sig → joined (with_symbol old (named m)) (names ++ n ∷ []) params args result ≡ Ok (with_symbol sig (named n))) → unless g (joined (with_symbol old (named m)) (names ++ n ∷ []) params args result) ≡ Ok (with_symbol sig (named n))
+      by : (g : Option Flaw) → unless g (joined (with_symbol old (named m)) names params args result) ≡ Ok sig → (joined (with_symbol old (named m)) names params args result ≡ Ok sig → joined (with_symbol old (named m)) (names ++ n ∷ []) params args result ≡ Ok (with_symbol sig (named n))) → unless g (joined (with_symbol old (named m)) (names ++ n ∷ []) params args result) ≡ Ok (with_symbol sig (named n))
       by None e r = r e
       by (Some x) e r = absurd (cc)
 
@@ -163,19 +167,10 @@ module _ (params : List Sym) (args : List Sort) (result : Sort) where
     })
 
 -- what a symbol that was added tells
-pub added_by : (a : Result (Unit {0}) SigError) (f : Option SigError) (new grown sig : Signature) → is_err a ≡ false → MatchFault f a → new ≡ cond (is_ok a) grown sig → (f ≡ None) × (new ≡ grown)
+pub added_by : (a : Result (Unit {0}) SigError) (f : Option Flaw) (new grown sig : Signature) → is_err a ≡ false → MatchFault f a → new ≡ cond (is_ok a) grown sig → (f ≡ None) × (new ≡ grown)
 added_by (Ok u) f new grown sig h m e = (m, e)
 added_by (Err x) f new grown sig h m e = absurd (cc)
 
 -- an error that a test hands on
-pub test_refused : (outcome : Result Signature SigError) (a : Result (Unit {0}) SigError) (e : SigError) → a ≡ Err e → outcome ≡ Err e → MatchTest outcome a
-test_refused outcome a e is h = subst (MatchTest outcome) (sym is) (by e h)
-  where
-    by : (e : SigError) → outcome ≡ Err e → MatchTest outcome (Err e)
-    by (Redeclared n) h = h
-    by (TooWide n) h = h
-    by (UnknownSort n) h = h
-    by (Arity n) h = h
-    by SortTooLarge h = h
-    by (LooseParam n) h = h
-    by Memory h = tt
+pub test_refused : (outcome : Result Signature Flaw) (a : Result (Unit {0}) DeclareError) (f : Flaw) → a ≡ Err (Flawed f) → outcome ≡ Err f → MatchTest outcome a
+test_refused outcome a f is h = subst (MatchTest outcome) (sym is) h

@@ -1,15 +1,15 @@
 -- What is declared is there, what was there stays, and a signature stays valid.
-use Rattle.std.proofs.Common.{◌≡◌, ℕ, ◌==◌, Bool, true, false, cond, List, [], ◌∷◌, ◌++◌, length, map, Option, Some, None, is_some, nat_lt, Result, Ok, refl, sym, ◌∙◌, ap, subst}
+use Rattle.std.proofs.Common.{◌≡◌, ℕ, ◌==◌, Bool, true, false, cond, List, [], ◌∷◌, ◌++◌, length, map, Option, Some, None, is_some, option_map, nat_lt, Result, Ok, refl, sym, ◌∙◌, ap, subst}
 use Rattle.std.specs.Prelude.{IfSome}
 use Rattle.std.specs.List.{list_any, flat_map, AllByRecursion}
-use Rattle.ath_sorts.specs.declared.signature.SigError.{SigError}
+use Rattle.ath_sorts.specs.declared.signature.Flaw.{Flaw}
 use Rattle.ath_sorts.specs.declared.signature.Symbol.{Symbol}
 use Rattle.ath_sorts.specs.declared.sorts.Sort.{Sort}
 use Rattle.ath_sorts.specs.declared.sorts.Sym.{Sym}
-use Rattle.ath_sorts.specs.declared.signature.SigError.TheVariants.{Redeclared, TooWide, SortTooLarge}
+use Rattle.ath_sorts.specs.declared.signature.Flaw.TheVariants.{Redeclared, TooWide, SortTooLarge}
 use Rattle.ath_sorts.specs.declared.limits.TheConstants.{MOST_WIDTH}
-use Rattle.ath_sorts.specs.Declaring.{fault_if, use_fault, domain_fault, symbol_fault, with_sort, with_symbol}
-use Rattle.ath_sorts.specs.Limits.{is_small}
+use Rattle.ath_sorts.specs.Declaring.{error_of, fault_if, use_fault, domain_fault, symbol_fault, with_sort, with_symbol}
+use Rattle.ath_sorts.specs.Sorts.{is_small}
 use Rattle.ath_sorts.specs.Signature.{Signature, arity_among, symbol_among, arity_of, symbol_of}
 use Rattle.ath_sorts.specs.Validity.{AreDistinct, has_made, IsValid}
 use Rattle.ath_sorts.proofs.Bools.{true-not-false, num_same}
@@ -22,23 +22,27 @@ use Rattle.ath_declarations.proofs.Joins.{first_none, no_fault, name_free}
 use Rattle.ath_declarations.proofs.Names.{firsts_differ}
 use Rattle.ath_declarations.proofs.TextLaws.{none_made, spelled_none_made}
 
-pub unless_ok : {A : Type 0} (f : Option SigError) (o : Result A SigError) (x : A) → unless f o ≡ Ok x → (f ≡ None) × (o ≡ Ok x)
+pub unless_ok : {A E : Type 0} (f : Option E) (o : Result A E) (x : A) → unless f o ≡ Ok x → (f ≡ None) × (o ≡ Ok x)
 unless_ok None o x h = (refl, h)
 unless_ok (Some e) o x h = absurd (cc)
 
-pub ok_is : {A : Type 0} (x y : A) → ◌≡◌ {A = Result A SigError} (Ok x) (Ok y) → x ≡ y
+pub ok_is : {A E : Type 0} (x y : A) → ◌≡◌ {A = Result A E} (Ok x) (Ok y) → x ≡ y
 ok_is x y e = cc
 
 -- ---- what a text means
-no_limit : (b : Bool) (e : SigError) → cond b None (Some e) ≡ None → b ≡ true
+unmapped : (o : Option Flaw) → option_map error_of o ≡ None → o ≡ None
+unmapped None h = refl
+unmapped (Some f) h = absurd (cc)
+
+no_limit : (b : Bool) (e : Flaw) → cond b None (Some e) ≡ None → b ≡ true
 no_limit true e h = refl
 no_limit false e h = absurd (cc)
 
 pub meant_sort : (sig : Signature) (t : SortText) (s : Sort) → meaning sig t ≡ Ok s → IsMeant sig s
 meant_sort sig t s h =
     let u = sort_of t in
-    let e = unless_ok (text_fault sig u) (Ok u) s h in
-    let a = first_none (use_fault sig (written_in u) u) (cond (is_small u) None (Some SortTooLarge) ∷ []) e.0 in
+    let e = unless_ok (option_map error_of (text_fault sig u)) (Ok u) s h in
+    let a = first_none (use_fault sig (written_in u) u) (cond (is_small u) None (Some SortTooLarge) ∷ []) (unmapped (text_fault sig u) e.0) in
     let b = first_none (cond (is_small u) None (Some SortTooLarge)) [] a.1 in
     subst (IsMeant sig) (ok_is u s e.1) (record { there = a.0; small = no_limit (is_small u) SortTooLarge b.0; none_made = none_made t })
 

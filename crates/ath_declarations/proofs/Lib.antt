@@ -7,5 +7,4 @@ pub mod Joins
 pub mod TextLaws
 pub mod Keeping
 pub mod Rows
-mod FirstPlaces
 pub mod Narrow

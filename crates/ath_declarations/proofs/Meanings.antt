@@ -1,10 +1,12 @@
 -- What a sort text means, test by test.
-use Rattle.std.proofs.Common.{◌≡◌, true, false, ◌∷◌, [], Some, None, Result, Ok, Err, cond, sym, ◌∙◌, ap}
+use Rattle.std.proofs.Common.{◌≡◌, true, false, ◌∷◌, [], Option, Some, None, option_map, Result, Ok, Err, cond, sym, ◌∙◌, ap}
+use Rattle.ath_sorts.specs.declared.signature.Flaw.{Flaw}
 use Rattle.ath_sorts.specs.declared.signature.SigError.{SigError}
+use Rattle.ath_sorts.specs.declared.signature.Flaw.TheVariants as flaw
 use Rattle.ath_sorts.specs.declared.signature.SigError.TheVariants.{Redeclared, TooWide, UnknownSort, Arity, SortTooLarge, LooseParam, Memory}
 use Rattle.ath_sorts.specs.declared.sorts.Sort.{Sort}
-use Rattle.ath_sorts.specs.Declaring.{first_fault}
-use Rattle.ath_sorts.specs.Limits.{is_small}
+use Rattle.ath_sorts.specs.Declaring.{error_of, first_fault}
+use Rattle.ath_sorts.specs.Sorts.{is_small}
 use Rattle.ath_sorts.specs.Signature.{Signature}
 use Rattle.ath_syntax.specs.declared.node.SortText.{SortText}
 use Rattle.ath_declarations.specs.Outcomes.{MatchOutcome}
@@ -23,14 +25,17 @@ err_matches outcome (LooseParam n) h = h
 err_matches outcome Memory h = tt
 
 module _ (sig : Signature) (t : SortText) (s : Sort) (spells : s ≡ sort_of t) where
-  meaning_is : meaning sig t ≡ unless (first_fault (place_fault sig None s ∷ cond (is_small s) None (Some SortTooLarge) ∷ [])) (Ok s)
-  meaning_is = ap (λ s. unless (text_fault sig s) (Ok s)) (sym spells) ∙ ap (λ f. unless (first_fault (f ∷ cond (is_small s) None (Some SortTooLarge) ∷ [])) (Ok s)) (sym (all_allowed sig s))
+  abbrev given : Option Flaw → Result Sort SigError
+  given f = unless (option_map error_of (first_fault (f ∷ cond (is_small s) None (Some flaw.SortTooLarge) ∷ []))) (Ok s)
 
-  pub misplaced : (e : SigError) → place_fault sig None s ≡ Some e → MatchOutcome (meaning sig t) (Err e)
-  misplaced e h = err_matches (meaning sig t) e (meaning_is ∙ ap (λ f. unless (first_fault (f ∷ cond (is_small s) None (Some SortTooLarge) ∷ [])) (Ok s)) h)
+  meaning_is : meaning sig t ≡ given (place_fault sig s)
+  meaning_is = ap (λ s. unless (option_map error_of (text_fault sig s)) (Ok s)) (sym spells) ∙ ap given (sym (all_allowed sig s))
 
-  pub too_large : place_fault sig None s ≡ None → is_small s ≡ false → meaning sig t ≡ Err SortTooLarge
-  too_large h l = meaning_is ∙ ap (λ f. unless (first_fault (f ∷ cond (is_small s) None (Some SortTooLarge) ∷ [])) (Ok s)) h ∙ ap (λ b. unless (first_fault (cond b None (Some SortTooLarge) ∷ [])) (Ok s)) l
+  pub misplaced : (f : Flaw) (e : SigError) → place_fault sig s ≡ Some f → e ≡ error_of f → MatchOutcome (meaning sig t) (Err e)
+  misplaced f e h same = err_matches (meaning sig t) e (meaning_is ∙ ap given h ∙ ap (λ (x : SigError). Err x) (sym same))
 
-  pub meant : place_fault sig None s ≡ None → is_small s ≡ true → meaning sig t ≡ Ok s
-  meant h l = meaning_is ∙ ap (λ f. unless (first_fault (f ∷ cond (is_small s) None (Some SortTooLarge) ∷ [])) (Ok s)) h ∙ ap (λ b. unless (first_fault (cond b None (Some SortTooLarge) ∷ [])) (Ok s)) l
+  pub too_large : place_fault sig s ≡ None → is_small s ≡ false → meaning sig t ≡ Err SortTooLarge
+  too_large h l = meaning_is ∙ ap given h ∙ ap (λ b. unless (option_map error_of (first_fault (cond b None (Some flaw.SortTooLarge) ∷ []))) (Ok s)) l
+
+  pub meant : place_fault sig s ≡ None → is_small s ≡ true → meaning sig t ≡ Ok s
+  meant h l = meaning_is ∙ ap given h ∙ ap (λ b. unless (option_map error_of (first_fault (cond b None (Some flaw.SortTooLarge) ∷ []))) (Ok s)) l

@@ -1,12 +1,12 @@
 -- Worked texts and declarations, computed. Sorts are known by their numbers: Boolean has 0.
 use Rattle.std.proofs.Common.{◌≡◌, ◌&&◌, true, cond, List, [], ◌∷◌, ◌++◌, Some, None, Ok, Err, refl, ◌∙◌, ap}
 use Rattle.std.specs.Prelude.{nat_le}
-use Rattle.ath_sorts.specs.declared.signature.SigError.TheVariants.{Redeclared, UnknownSort, Arity, SortTooLarge}
+use Rattle.ath_sorts.specs.declared.signature.Flaw.TheVariants.{Redeclared, UnknownSort, Arity, SortTooLarge}
 use Rattle.ath_sorts.specs.declared.sorts.Sym.{Sym}
 use Rattle.ath_sorts.specs.declared.sorts.SVar.TheVariants.{Written}
 use Rattle.ath_sorts.specs.declared.sorts.Sort.{Sort, Var, Con}
 use Rattle.ath_sorts.specs.Declaring.{first_fault, use_fault, symbol_fault, with_sort}
-use Rattle.ath_sorts.specs.Limits.{is_small}
+use Rattle.ath_sorts.specs.Sorts.{is_small}
 use Rattle.ath_sorts.proofs.SortLaws.{size-con, depth-con}
 use Rattle.ath_sorts.specs.Signature.{initial}
 use Rattle.ath_syntax.specs.declared.node.SortText as text

@@ -5,7 +5,7 @@ use Rattle.ath_sorts.specs.declared.signature.Symbol.{Symbol}
 use Rattle.ath_sorts.specs.declared.sorts.Sort.{Sort}
 use Rattle.ath_sorts.specs.declared.sorts.Sym.{Sym}
 use Rattle.ath_sorts.specs.Declaring.{use_fault}
-use Rattle.ath_sorts.specs.Limits.{is_small}
+use Rattle.ath_sorts.specs.Sorts.{is_small}
 use Rattle.ath_sorts.specs.Signature.{Signature, arity_of, symbol_of}
 use Rattle.ath_sorts.specs.Validity.{AreDistinct, has_made, IsValid}
 use Rattle.ath_syntax.specs.declared.node.SortText.{SortText}

@@ -3,4 +3,3 @@ pub mod Declarations
 pub mod Outcomes
 pub mod Steps
 pub mod Laws
-pub mod Unlisted

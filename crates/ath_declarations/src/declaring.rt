@@ -1,18 +1,45 @@
 // Domains and symbols are declared.
 
-ghost use Rattle.std.specs.Prelude.{◌≡◌, ◌++◌, ◌∷◌, [], IfOk, IfErr, OnErr, OnOk, map, is_ok, true, Ok};
+ghost use Rattle.std.specs.Prelude.{◌≡◌, ◌++◌, ◌∷◌, [], IfOk, OnErr, OnOk, map, is_ok, true, Ok};
 ghost use Rattle.ath_declarations.specs.Outcomes.{MatchChange, IsBegun};
 ghost use Rattle.ath_declarations.specs.Declarations.{declared, domain_declared, joined, params_of};
 ghost use Rattle.ath_declarations.specs.Steps.{HasSome, MatchTest};
 ghost use Rattle.ath_declarations.specs.Texts.{sort_of};
+ghost use Rattle.ath_declarations.specs.declared.declaring.DeclareError.TheVariants.{Flawed, Memory};
 
-use crate::checks::{check_symbol, find_taken};
+use crate::checks::find_taken;
 use crate::params::params_over;
 use crate::texts::spelled;
-use ath_sorts::{SigError, Signature, Sort, Sym};
+use ath_sorts::{Flaw, Signature, Sort, Sym};
 use ath_syntax::SortText;
 use sqlite_items::Items;
 use std::alloc::{AllocError, Global};
+use thiserror::Error;
+
+/// Why a declaration is refused: for a flaw, which tells a sort variable from a constructor, or for want of memory.
+#[derive(Debug, Drop, Error)]
+pub enum DeclareError {
+    #[error("the declaration is flawed")]
+    Flawed(Flaw),
+    #[error("out of memory")]
+    Memory,
+}
+
+impl From<Flaw> for DeclareError {
+    ghost from_gives = { λ f e. e ≡ Flawed f };
+
+    fn from(flaw: Flaw) -> DeclareError {
+        DeclareError::Flawed(flaw)
+    }
+}
+
+impl From<AllocError> for DeclareError {
+    ghost from_gives = { λ _ e. e ≡ Memory };
+
+    fn from(_error: AllocError) -> DeclareError {
+        DeclareError::Memory
+    }
+}
 
 /// Declares a domain: adds the sort constructor of this name, with an argument for each sort variable of its header.
 /// Refusals are `Redeclared` and `TooWide` of the name. After an error the signature is as it was.
@@ -21,11 +48,15 @@ pub fn declare_domain(
     sig: &mut Signature,
     name: Sym,
     vars: &[Sym],
-) -> Result<(), SigError>
+) -> Result<(), DeclareError>
     ensures outcome { MatchChange (domain_declared sig.old name vars.now) sig.old sig.new result }
     ensures unchanged { OnErr result (sig.new ≡ sig.old) }
 {
-    sig.add_domain(alloc, name, vars.len())
+    sig.check_domain(name, vars.len())?;
+    if sig.add_domain(alloc, name, vars.len()).is_err() {
+        return Err(DeclareError::Memory);
+    }
+    Ok(())
 }
 
 /// What each of the names of a declaration becomes: its parameters, and its sorts over them.
@@ -47,13 +78,14 @@ pub fn declare(
     list: &Option<Items<Sym>>,
     args: &[SortText],
     result_sort: &SortText,
-) -> Result<(), SigError>
+) -> Result<(), DeclareError>
     ensures outcome { MatchChange (declared sig.old names.now list.now args.now result_sort.now) sig.old sig.new result }
     ensures begun { OnErr result (IsBegun sig.old sig.new names.now list.now args.now result_sort.now) }
 {
     let shape = shape_of(alloc, list, args, result_sort)?;
     check_names(alloc, sig, names, &shape)?;
-    add_names(alloc, sig, names, &shape)
+    add_names(alloc, sig, names, &shape)?;
+    Ok(())
 }
 
 fn shape_of(
@@ -87,15 +119,20 @@ fn spelled_all(alloc: Global, texts: &[SortText]) -> Result<Vec<Sort>, AllocErro
 }
 
 /// Tests all names before the first is added. The tests that don't speak of the name are those of the first.
-fn check_names(alloc: Global, sig: &Signature, names: &[Sym], shape: &Shape) -> Result<(), SigError>
+fn check_names(
+    alloc: Global,
+    sig: &Signature,
+    names: &[Sym],
+    shape: &Shape,
+) -> Result<(), DeclareError>
     ensures { MatchTest (joined sig.now names.now shape.now.params.items shape.now.args.items shape.now.result) result }
 {
     if names.is_empty() {
         return Ok(());
     }
-    check_symbol(sig, names[0], &shape.params, &shape.args, &shape.result)?;
+    sig.check_symbol(names[0], &shape.params, &shape.args, &shape.result)?;
     match find_taken(alloc, sig, names)? {
-        Some(name) => Err(SigError::Redeclared(name)),
+        Some(name) => Err(DeclareError::Flawed(Flaw::Redeclared(name))),
         None => Ok(()),
     }
 }
@@ -106,16 +143,15 @@ fn add_names(
     sig: &mut Signature,
     names: &[Sym],
     shape: &Shape,
-) -> Result<(), SigError>
+) -> Result<(), AllocError>
     requires { is_ok (joined sig.old names.now shape.now.params.items shape.now.args.items shape.now.result) ≡ true }
     ensures added { OnOk result (joined sig.old names.now shape.now.params.items shape.now.args.items shape.now.result ≡ Ok sig.new) }
-    ensures err { IfErr result (λ e. e ≡ SigError.Memory) }
     ensures begun { OnErr result (HasSome sig.old sig.new names.now shape.now.params.items shape.now.args.items shape.now.result) }
 {
     for name in names {
         let added = sig.add_symbol(alloc, *name, &shape.params, &shape.args, &shape.result);
         if added.is_err() {
-            return Err(SigError::Memory);
+            return Err(AllocError);
         }
     }
     Ok(())

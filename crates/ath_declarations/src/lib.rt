@@ -8,8 +8,6 @@ mod params;
 #[cfg(test)]
 mod tests;
 pub mod texts;
-pub mod unlisted;
 
-pub use declaring::{declare, declare_domain};
+pub use declaring::{DeclareError, declare, declare_domain};
 pub use texts::sort_of_text;
-pub use unlisted::is_unlisted;

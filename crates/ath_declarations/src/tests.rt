@@ -1,7 +1,7 @@
 // Declarations and sort texts, case by case. A sort is known by its number: Boolean has 0, and its constants 1 and 2.
 
-use crate::{declare, declare_domain, sort_of_text};
-use ath_sorts::{SVar, SigError, Signature, Sort, Sym};
+use crate::{DeclareError, declare, declare_domain, sort_of_text};
+use ath_sorts::{Flaw, SVar, SigError, Signature, Sort, Sym};
 use ath_syntax::SortText;
 use sqlite_items::Items;
 use std::alloc::{AllocError, Global};
@@ -26,22 +26,32 @@ const G: Sym = Sym(31);
 const H: Sym = Sym(32);
 
 /// A number for the kind of the answer, and the name in it.
-fn told(answer: Result<(), SigError>) -> (usize, usize) {
+fn told(answer: Result<(), DeclareError>) -> (usize, usize) {
     match answer {
         Ok(_) => (0, 0),
-        Err(error) => told_error(error),
+        Err(DeclareError::Flawed(flaw)) => told_flaw(flaw),
+        Err(DeclareError::Memory) => (7, 0),
+    }
+}
+
+fn told_flaw(flaw: Flaw) -> (usize, usize) {
+    match flaw {
+        Flaw::Redeclared(name) => (1, name.0),
+        Flaw::TooWide(name) => (2, name.0),
+        Flaw::UnknownSort(name) => (3, name.0),
+        Flaw::Arity(name) => (4, name.0),
+        Flaw::SortTooLarge => (5, 0),
+        Flaw::LooseParam(name) => (6, name.0),
+        Flaw::UnknownVariable(name) => (8, name.0),
     }
 }
 
 fn told_error(error: SigError) -> (usize, usize) {
     match error {
-        SigError::Redeclared(name) => (1, name.0),
-        SigError::TooWide(name) => (2, name.0),
         SigError::UnknownSort(name) => (3, name.0),
         SigError::Arity(name) => (4, name.0),
         SigError::SortTooLarge => (5, 0),
-        SigError::LooseParam(name) => (6, name.0),
-        SigError::Memory => (7, 0),
+        _ => (7, 0),
     }
 }
 
@@ -137,7 +147,7 @@ fn refusals(rt: HostRuntime) -> Result<(), Fail> {
             &[],
             &SortText::Var(SECOND)
         )),
-        (3, 21)
+        (8, 21)
     );
     assert!(rt; sig.symbol(F).is_none());
     Ok(())

@@ -4,7 +4,7 @@ ghost use Rattle.std.specs.Prelude.{◌≡◌, IfOk};
 ghost use Rattle.ath_declarations.specs.Outcomes.{MatchOutcome};
 ghost use Rattle.ath_declarations.specs.Texts.{meaning, sort_of};
 
-use crate::checks::check_use;
+use crate::checks::check_constructors;
 use ath_sorts::limits::is_within_limits;
 use ath_sorts::{SVar, SigError, Signature, Sort};
 use ath_syntax::SortText;
@@ -17,7 +17,7 @@ pub fn sort_of_text(alloc: Global, sig: &Signature, text: &SortText) -> Result<S
     ensures { MatchOutcome (meaning sig.now text.now) result }
 {
     let sort = spelled(alloc, text)?;
-    check_use(sig, None, &sort)?;
+    check_constructors(sig, &sort)?;
     if !is_within_limits(&sort) {
         return Err(SigError::SortTooLarge);
     }

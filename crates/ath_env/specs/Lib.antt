@@ -1,2 +1,3 @@
 pub mod LookUp
+pub mod Stands
 pub mod Values

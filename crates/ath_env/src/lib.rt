@@ -7,4 +7,4 @@ mod tests;
 pub mod value;
 
 pub use lookup::{look_up, text_of};
-pub use value::{Value, sentence};
+pub use value::{Value, sentence, value_of};

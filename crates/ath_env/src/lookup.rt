@@ -5,7 +5,7 @@ ghost use Rattle.std.specs.Map.{lookup};
 ghost use Rattle.std.specs.Str.{bytes_eq};
 ghost use Rattle.ath_terms.specs.Trees.{Trees};
 ghost use Rattle.ath_env.specs.LookUp.{looked_up, first_values, text_of};
-ghost use Rattle.ath_env.specs.Values.{IsFound};
+ghost use Rattle.ath_env.specs.Stands.{IsFound};
 
 use crate::value::Value;
 use ath_names::Names;

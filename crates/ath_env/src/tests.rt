@@ -1,10 +1,10 @@
 ghost use Rattle.std.specs.Prelude.{IfOk};
-ghost use Rattle.ath_env.specs.Values.{IsIn};
+ghost use Rattle.ath_env.specs.Stands.{IsIn};
 
 use super::*;
 use ath_names::Names;
 use ath_sorts::{Signature, Sort, Sym};
-use ath_terms::{Store, TermNode};
+use ath_terms::Store;
 use ath_trees::Conn;
 use sqlite_items::Items;
 use std::process::Abort;
@@ -51,8 +51,8 @@ fn constant(
     ensures { IfOk result (λ value. IsIn store.new value) }
 {
     let alloc = rt.alloc();
-    let node = TermNode::App(Sym(name), Items::new(alloc), Items::new(alloc));
-    let t = store.add_term(node, Sort::Con(Sym(sort), Items::new(alloc)))?;
+    let own = Sort::Con(Sym(sort), Items::new(alloc));
+    let t = store.raw_app(alloc, Sym(name), &Vec::new(alloc), &Vec::new(alloc), &own)?;
     Ok(Value::Term(t))
 }
 
@@ -72,5 +72,18 @@ fn terms_of_sort_boolean_and_sentences_are_sentences(rt: HostRuntime) -> Result<
     assert_eq!(rt; none, None);
     let method = sentence(&mut store, Value::PrimMethod(1))?;
     assert_eq!(rt; method, None);
+    Ok(())
+}
+
+#[test]
+fn an_atom_is_the_value_of_its_term(rt: HostRuntime) -> Result<(), Fail> {
+    let alloc = rt.alloc();
+    let mut store = Store::new(alloc);
+    let truth = constant(&rt, &mut store, 1, 0)?;
+    let atom = sentence(&mut store, truth)?;
+    let Some(p) = atom else {
+        panic!(rt; "no sentence");
+    };
+    assert!(rt; matches!(value_of(&store, p), Value::Term(_)));
     Ok(())
 }

@@ -1,11 +1,12 @@
 // Values.
 
-ghost use Rattle.std.specs.Prelude.{◌≡◌, Option, IfOk};
+ghost use Rattle.std.specs.Prelude.{◌≡◌, ◌<◌, Option, IfOk, length};
 ghost use Rattle.ath_sorts.specs.Signature.{Signature, boolean};
-ghost use Rattle.ath_sorts.specs.Unifiers.{same_sort};
-ghost use Rattle.ath_terms.specs.Trees.{Grows};
+ghost use Rattle.ath_sorts.specs.Order.{same_sort};
+ghost use Rattle.ath_terms.specs.Trees.{Grows, sent_at};
 ghost use Rattle.ath_terms.specs.SortsIn.{IsSortedIn};
-ghost use Rattle.ath_env.specs.Values.{IsIn, value_at, sentence_of, IsSentenceOf};
+ghost use Rattle.ath_env.specs.Values.{sentence_of, value_of};
+ghost use Rattle.ath_env.specs.Stands.{IsIn, value_at, IsSentenceOf};
 
 use ath_sorts::sorts::BOOLEAN;
 use ath_sorts::{Sort, Sym};
@@ -50,10 +51,22 @@ pub fn sentence(store: &mut Store, value: Value) -> Result<Option<SentId>, Alloc
             if !is_boolean(store.sort_of(t)) {
                 return Ok(None);
             }
-            let p = store.add_sent(SentNode::Atom(t))?;
+            let p = store.plain_atom(t)?;
             Ok(Some(p))
         }
         Value::Sent(p) => Ok(Some(p)),
         _ => Ok(None),
+    }
+}
+
+/// The value that a sentence is: an atom is the value of its term.
+pub fn value_of(store: &Store, p: SentId) -> Value
+    requires { p.0 < length store.now.sents }
+    ensures inside { IsIn store.now result }
+    ensures value { (sig : Signature) → IsSortedIn sig store.now → value_at store.now result ≡ value_of (sent_at store.now.sents p.0) }
+{
+    match store.sent(p) {
+        SentNode::Atom(t) => Value::Term(*t),
+        _other => Value::Sent(p),
     }
 }

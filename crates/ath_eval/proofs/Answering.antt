@@ -13,7 +13,8 @@ use Rattle.ath_env.specs.Values.{a_term, a_sentence}
 use Rattle.ath_eval.specs.declared.world.Outcome as outcome
 use Rattle.ath_eval.specs.declared.world.Outcome.TheVariants as ends
 use Rattle.ath_eval.specs.Applying.{gives_term, gives_sentence}
-use Rattle.ath_eval.specs.Building.{Built, why_unbuilt, IsErrorIn, IsTermBuilt, IsSentBuilt}
+use Rattle.ath_eval.specs.Building.{Built}
+use Rattle.ath_eval.specs.Stands.{why_unbuilt, IsErrorIn, IsTermBuilt, IsSentBuilt}
 use Rattle.ath_eval.specs.Outcomes.{fails}
 use Rattle.ath_eval.specs.World.{IsSteady}
 

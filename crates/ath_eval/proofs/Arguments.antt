@@ -3,11 +3,12 @@ use Rattle.std.proofs.Common.{◌≡◌, ◌<◌, List, [], ◌∷◌, ◌++◌,
 use Rattle.std.specs.List.{All}
 use Rattle.std.proofs.lemmas.List.Elements.{All-nil, All-cons}
 use Rattle.ath_trees.specs.declared.node.SentId.{SentId}
-use Rattle.ath_trees.specs.Tree.{Sent}
+use Rattle.ath_trees.specs.Tree.{Sent, atom, equal, negated, joined, bound}
 use Rattle.ath_terms.specs.Trees.{Trees, sent_at, Grows}
 use Rattle.ath_env.specs.declared.value.Value as value
 use Rattle.ath_env.specs.declared.value.Value.TheVariants.{Term, Sent as Sentence, Symbol, Conn, Quant, Back, PrimMethod}
-use Rattle.ath_env.specs.Values.{Value, a_term, IsIn, value_at, IsSentenceOf}
+use Rattle.ath_env.specs.Values.{Value, a_term, a_sentence, value_of}
+use Rattle.ath_env.specs.Stands.{IsIn, value_at, IsSentenceOf}
 use Rattle.ath_eval.specs.Arguments.{IsSmallValue, IsArgument, IsGood, AreArguments, values_at}
 
 module _ (s t : Trees) (g : Grows s t) where
@@ -108,6 +109,14 @@ module _ (s : Trees) where
   sentence_none None None e h = refl
   sentence_none None (Some y) e h = absurd h
   sentence_none (Some q) x e h = cc
+
+-- the value of a sentence within the limits
+pub small_value : (p : Sent) → IsSmallValue (a_sentence p) → IsSmallValue (value_of p)
+small_value (atom t) h = h.0
+small_value (equal s t) h = h
+small_value (negated p) h = h
+small_value (joined c p q) h = h
+small_value (bound k v p) h = h
 
 -- what stands for an argument that isn't there
 abbrev pub no_value : value.Value

@@ -16,7 +16,9 @@ use Rattle.ath_trees.specs.declared.node.Binary.TheVariants as binary
 use Rattle.ath_trees.specs.declared.node.Conn.TheVariants.{Not, And, Or, If, Iff}
 use Rattle.ath_trees.specs.declared.node.SentId.{SentId}
 use Rattle.ath_trees.specs.declared.node.TermId.{TermId}
-use Rattle.ath_terms.specs.Construction.{MatchAtom, MatchSent, MatchCounted, MatchConnective, connected, grouped, takes, connective_plan, sent_measure}
+use Rattle.ath_terms.specs.Construction as terms
+use Rattle.ath_terms.specs.Construction.{connected, grouped, takes}
+use Rattle.ath_terms.specs.Answers as answers
 use Rattle.ath_trees.specs.Measure.{IsSmall}
 use Rattle.ath_trees.specs.Tree.{Sent, atom, equal, negated, joined, bound}
 use Rattle.ath_terms.specs.Trees.{Trees, term_at, sent_at, Grows}
@@ -24,24 +26,24 @@ use Rattle.ath_trees.specs.Under.{sent_under, has_no_binder}
 use Rattle.ath_trees.proofs.ValidSorts.{both_true}
 use Rattle.ath_env.specs.declared.value.Value as value
 use Rattle.ath_env.specs.declared.value.Value.TheVariants as code
-use Rattle.ath_env.specs.Values.{value_at}
+use Rattle.ath_env.specs.Stands.{value_at}
 use Rattle.ath_eval.specs.declared.kinds.Part.{Part as Piece}
 use Rattle.ath_eval.specs.declared.kinds.Part.TheVariants as piece
 use Rattle.ath_eval.specs.declared.world.Outcome as outcome
 use Rattle.ath_eval.specs.Applying.{Kinds, kinds_of, Part, part_of, term_part, sentence_part, sentence_made, and_sentence, sentences_made, connective_of, connective_to, connective_applied, gives_sentence}
 use Rattle.ath_eval.specs.Arguments.{IsGoodPiece, values_at, piece_tree}
-use Rattle.ath_eval.specs.Building.{Built, builds, refuses, made_atom, made_connective, constructed, why_unbuilt, IsErrorIn, IsRefused, IsSentBuilt, IsSentIn, AreSentsIn}
-use Rattle.ath_eval.specs.Outcomes.{Outcome, fails}
+use Rattle.ath_eval.specs.Building.{Built, builds, refuses, made_atom, made_connective}
+use Rattle.ath_eval.specs.Stands.{why_unbuilt, IsErrorIn, IsRefused, IsSentBuilt, IsSentIn, AreSentsIn}
+use Rattle.ath_eval.specs.Outcomes.{Left, Outcome, fails}
 use Rattle.ath_eval.specs.World.{IsSteady}
 use Rattle.ath_eval.proofs.Arguments.{good_grows}
-use Rattle.ath_eval.proofs.Constructions.{atom_built, sent_built}
+use Rattle.ath_eval.proofs.Constructions.{atom_built, connective_built}
 use Rattle.ath_eval.proofs.KindLaws.{length_map}
 
 -- ---- one part
-pub atom_part : (sig : Signature) (s u : Trees) (part : Piece) (t : TermId) (r : Result SentId BuildError) → Grows s u → part ≡ piece.Term t → IsGoodPiece s part → MatchAtom sig u t (term_at s.terms t.0) r → IsSentBuilt u (sentence_made sig (piece_tree s part)) r
+pub atom_part : (sig : Signature) (s u : Trees) (part : Piece) (t : TermId) (r : Result SentId BuildError) → Grows s u → part ≡ piece.Term t → IsGoodPiece s part → answers.IsSentBuilt u (terms.made_atom sig (term_at s.terms t.0)) r → IsSentBuilt u (sentence_made sig (piece_tree s part)) r
 atom_part sig s u part t r g e h m =
-    let k : IsGoodPiece s (piece.Term t) = subst (λ (p : Piece). IsGoodPiece s p) e h in
-    let b : IsSentBuilt u (made_atom sig (term_at s.terms t.0)) r = atom_built sig u t (term_at s.terms t.0) (omega (arith, g.terms, k.0)) (g.same_terms t.0 k.0) r m in
+    let b : IsSentBuilt u (made_atom sig (term_at s.terms t.0)) r = atom_built sig u (term_at s.terms t.0) r m in
     subst (λ (p : Piece). IsSentBuilt u (sentence_made sig (piece_tree s p)) r) (sym e) b
 
 -- ---- parts one by one
@@ -140,12 +142,6 @@ module _ (s : Trees) (ids : List SentId) (h : All (IsSentIn s) ids) where
   pub sents_inside : All (λ (p : SentId). p.0 < length s.sents) ids
   sents_inside = All-weaker (IsSentIn s) (λ (p : SentId). p.0 < length s.sents) (λ p k. k.0) ids h
 
-  pub sents_small : All (λ (p : SentId). IsSmall (sent_at s.sents p.0)) ids
-  sents_small = All-weaker (IsSentIn s) (λ (p : SentId). IsSmall (sent_at s.sents p.0)) (λ p k. k.1) ids h
-
-  pub sents_free : All (λ (p : SentId). has_no_binder (sent_at s.sents p.0) ≡ true) ids
-  sents_free = All-weaker (IsSentIn s) (λ (p : SentId). has_no_binder (sent_at s.sents p.0) ≡ true) (λ p k. k.2) ids h
-
 -- ---- the connective
 free_under : (f : SVar → Sort) (p : Sent) → has_no_binder p ≡ true → has_no_binder (sent_under f p) ≡ true
 free_under f (atom t) h = refl
@@ -179,17 +175,13 @@ free_trees s (p ∷ ids) h = All-cons IsFree (sent_at s.sents p.0) (trees_of s i
 
 module _ (sig : Signature) (c : Conn) (at : Pos) (o : outcome.Outcome) (whole : Built (List Sent)) where
   pub connective_made : (t u : Trees) (ids : List SentId) (n : ℕ) (r : Result SentId BuildError) → takes c n ≡ true → length ids ≡ n → AreSentsIn t whole ids
-      → MatchConnective sig u c (trees_of t ids) r
+      → answers.IsSentBuilt u (terms.made_connective sig c (trees_of t ids)) r
       → ((b : Built Sent) → IsSentBuilt u b r → IsSteady u o (gives_sentence b at))
       → IsSteady u o (gives_sentence (connective_of sig c whole) at)
   connective_made t u ids n r many e h m f =
       let ps = trees_of t ids in
-      let l : length ps ≡ n = length_map (λ (p : SentId). sent_at t.sents p.0) ids ∙ e in
-      let enough : takes c (length ps) ≡ true = subst (λ (k : ℕ). takes c k ≡ true) (sym l) many in
-      let made : MatchSent sig u (connective_plan ps (connected c ps)) r = subst (λ (b : Bool). MatchCounted sig u c ps b r) enough m in
-      let b = sent_built sig u (connective_plan ps (connected c ps)) r (λ v. free_under v (connected c ps) (connected_free c ps (free_trees t ids h.1))) made in
-      let q : made_connective sig c ps ≡ constructed (connective_plan ps (connected c ps)) (sent_measure sig) = rw enough refl in
-      subst (λ (x : Built Sent). IsSteady u o (gives_sentence x at)) (sym (ap (connective_of sig c) h.0 ∙ q)) (f (constructed (connective_plan ps (connected c ps)) (sent_measure sig)) b)
+      let b = connective_built sig u c ps r (λ v. free_under v (connected c ps) (connected_free c ps (free_trees t ids h.1))) m in
+      subst (λ (x : Built Sent). IsSteady u o (gives_sentence x at)) (sym (ap (connective_of sig c) h.0)) (f (made_connective sig c ps) b)
 
   pub connective_refused : (u : Trees) (e : BuildError) → IsRefused u whole e → (e ≡ Memory → ⊥) → (IsErrorIn u e → IsSteady u o (fails at (why_unbuilt u e))) → IsSteady u o (gives_sentence (connective_of sig c whole) at)
   connective_refused u e h n f = subst (λ (x : Built (List Sent)). IsSteady u o (gives_sentence (connective_of sig c x) at)) (sym (h n).0) (f (h n).1)
@@ -200,4 +192,4 @@ module _ (sig : Signature) (c : Conn) (s u : Trees) (vs : List value.Value) (at 
   connective_is k e h =
       let t : takes c (length (values_at s vs)) ≡ true = ap (takes c) (length_map (value_at s) vs) ∙ many in
       let f : connective_applied sig c (values_at s vs) ≡ connective_to sig c k = rw t (ap (connective_to sig c) e) in
-      subst (λ (f : Pos → ℕ → Fresh → Outcome). IsSteady u o (f at)) (sym f) h
+      subst (λ (f : Pos → Left → Outcome). IsSteady u o (f at)) (sym f) h

@@ -11,7 +11,8 @@ use Rattle.ath_sorts.specs.Sorts.{image, apply_to}
 use Rattle.ath_sorts.specs.Unifiers.{IsLeastUnifier}
 use Rattle.ath_sorts.specs.Validity.{IsValid}
 use Rattle.ath_sorts.proofs.SortLaws.{apply-con}
-use Rattle.ath_unifiers.specs.Unified.{Unified, solved, clashes, too_large, unified, IsUnified}
+use Rattle.ath_unifiers.specs.Unified.{Unified, solved, clashes, too_large, unified}
+use Rattle.ath_unifiers.specs.Outcomes.{IsUnified}
 use Rattle.ath_unifiers.proofs.Outcomes.{unified_is}
 use Rattle.ath_trees.specs.declared.node.Conn.{Conn}
 use Rattle.ath_trees.specs.declared.node.Binary.{Binary}
@@ -23,6 +24,7 @@ use Rattle.ath_trees.specs.SortsIn.{sort_in}
 use Rattle.ath_trees.specs.Under.{term_under, terms_under}
 use Rattle.ath_trees.specs.Variables.{with_term, with_terms, with_sents}
 use Rattle.ath_trees.specs.WellSorted.{has_arity, is_valid_sort, HasSort, app_has, HaveSorts, none_has, more_has, IsWellSorted, AreWellSorted}
+use Rattle.ath_terms.specs.Construction as terms
 use Rattle.ath_terms.specs.Construction.{Plan, made_sorts, variable_pairs, app_plan, equation_plan, ascription_plan, atom_plan, connective_plan, grouped, connected, takes, Measure, term_measure, sent_measure}
 use Rattle.ath_trees.proofs.ValidSorts.{both_true, valid-con, valid_all_under, all_at_sorts_under, symbol_good}
 use Rattle.ath_trees.proofs.UnderLaws.{sort_in-is, has_sort-under, have_sorts-under, well_sorted-under}
@@ -30,17 +32,16 @@ use Rattle.ath_terms.proofs.UnifierValid.{unifier_valid}
 use Rattle.ath_terms.proofs.ConstructionLaws.{has_sort-valid, zip-valid, term_vars-valid, terms_vars-valid, sents_vars-valid, append-valid, variable_pairs-valid}
 use Rattle.ath_terms.proofs.ListLaws.{made-length}
 use Rattle.ath_terms.proofs.ApplicationLaws.{made-valid, declared-valid, zip-pairs-valid, zip-unified, lengths}
-use Rattle.ath_print.specs.declared.fault.FaultKind.TheVariants.{SortTooLarge, TooLarge, TooDeep, NotBuilt}
-use Rattle.ath_print.specs.Events.{number_named}
-use Rattle.ath_eval.specs.Outcomes.{refusal}
-use Rattle.ath_eval.specs.Building.{Built, builds, refuses, within, by_unifier, constructed, made_app, made_equation, made_ascription, atom_by, made_atom, made_connective}
+use Rattle.ath_terms.proofs.Planned.{app_counted}
+use Rattle.ath_eval.specs.Building.{Built, builds, refuses, made_app, made_equation, made_ascription, made_atom, made_connective}
+use Rattle.ath_eval.proofs.Constructions.{builds_told}
 use Rattle.ath_eval.specs.Applying.{Part, term_part, sentence_part, sentence_made, and_sentence, sentences_made, connective_of}
 
 -- ---- the tree that is constructed is that by the least unifier
-within-is : {T : Type 0} (x y : T) (m : Measure) → within x m ≡ builds y → y ≡ x
+within-is : {T : Type 0} (x y : T) (m : Measure) → terms.within x m ≡ terms.builds y → y ≡ x
 within-is {T} x y m e = go m.small (nat_lt MOST_TERM_NODES m.nodes) (nat_lt MOST_TERM_LEVELS m.levels) e
   where
-    go : (a b d : Bool) → (if a then (if b then refuses (refusal TooLarge (number_named m.nodes ∷ [])) else if d then refuses (refusal TooDeep (number_named m.levels ∷ [])) else builds x) else refuses (refusal SortTooLarge [])) ≡ builds y → y ≡ x
+    go : (a b d : Bool) → (if a then (if b then terms.refuses (terms.nodes_above m.nodes) else if d then terms.refuses (terms.levels_above m.levels) else terms.builds x) else terms.refuses terms.sort_above) ≡ terms.builds y → y ≡ x
     go true true d f = absurd (cc)
     go true false true f = absurd (cc)
     go true false false f = cc
@@ -49,12 +50,12 @@ within-is {T} x y m e = go m.small (nat_lt MOST_TERM_NODES m.nodes) (nat_lt MOST
 abbrev pub IsLeast : {T : Type 0} → Plan T → T → Type 0
 IsLeast p x = (u : List (SVar × Sort)) × (IsLeastUnifier u p.pairs × (x ≡ p.tree (image u)))
 
-by-least : {T : Type 0} (p : Plan T) (m : T → Measure) (x : T) (r : Unified) → IsUnified p.pairs r → by_unifier p m r ≡ builds x → IsLeast p x
+by-least : {T : Type 0} (p : Plan T) (m : T → Measure) (x : T) (r : Unified) → IsUnified p.pairs r → terms.by_unifier p m r ≡ terms.builds x → IsLeast p x
 by-least p m x (solved u) h e = (u, (h.0, within-is (p.tree (image u)) x (m (p.tree (image u))) e))
 by-least p m x (clashes at) h e = absurd (cc)
 by-least p m x too_large h e = absurd (cc)
 
-pub constructed-least : {T : Type 0} (p : Plan T) (m : T → Measure) (x : T) → constructed p m ≡ builds x → IsLeast p x
+pub constructed-least : {T : Type 0} (p : Plan T) (m : T → Measure) (x : T) → terms.constructed p m ≡ terms.builds x → IsLeast p x
 constructed-least p m x e = by-least p m x (unified p.pairs) (unified_is p.pairs) e
 
 -- ---- in a valid signature, with the sort Boolean
@@ -75,13 +76,13 @@ module _ (sig : Signature) (valid : IsValid sig) (there : arity_of sig (record {
   -- a term whose sort is made another
   pub ascription-sorted : (t x : Term) (s : Sort) → IsSorted t → is_valid_sort sig s ≡ true → made_ascription sig t s ≡ builds x → IsSorted x
   ascription-sorted t x s h good e =
-      let k = constructed-least (ascription_plan sig t s) (term_measure sig) x e in
+      let k = constructed-least (ascription_plan sig t s) (term_measure sig) x (builds_told (terms.made_ascription sig t s) x e) in
       let ok = unifier_valid sig k.0 (ascription_plan sig t s).pairs k.1.0 ((has_sort-valid sig t (sort_in sig t) valid h, good), variable_pairs-valid sig (with_term [] t) (term_vars-valid sig [] t (sort_in sig t) tt h)) in
       subst IsSorted (sym k.1.1) (own-sort (term_under (image k.0) t) (apply_to (image k.0) (sort_in sig t)) (has_sort-under sig valid (image k.0) ok h))
 
   pub equation-sorted : (s t : Term) (x : Sent) → IsSorted s → IsSorted t → made_equation sig s t ≡ builds x → IsWellSorted sig x
   equation-sorted s t x h g e =
-      let k = constructed-least (equation_plan sig s t) (sent_measure sig) x e in
+      let k = constructed-least (equation_plan sig s t) (sent_measure sig) x (builds_told (terms.made_equation sig s t) x e) in
       let vars = term_vars-valid sig (with_term [] s) t (sort_in sig t) (term_vars-valid sig [] s (sort_in sig s) tt h) g in
       let ok = unifier_valid sig k.0 (equation_plan sig s t).pairs k.1.0 ((has_sort-valid sig s (sort_in sig s) valid h, has_sort-valid sig t (sort_in sig t) valid g), variable_pairs-valid sig (with_term (with_term [] s) t) vars) in
       let left = has_sort-under sig valid (image k.0) ok h in
@@ -89,19 +90,19 @@ module _ (sig : Signature) (valid : IsValid sig) (there : arity_of sig (record {
       subst (IsWellSorted sig) (sym k.1.1) (apply_to (image k.0) (sort_in sig t), (subst (HasSort sig (term_under (image k.0) s)) k.1.0.unifies.0 left, right))
 
   -- ---- atoms
-  plain-atom : (t : Term) (x : Sent) → IsSorted t → constructed (atom_plan sig t) (sent_measure sig) ≡ builds x → IsWellSorted sig x
+  plain-atom : (t : Term) (x : Sent) → IsSorted t → terms.constructed (atom_plan sig t) (sent_measure sig) ≡ terms.builds x → IsWellSorted sig x
   plain-atom t x h e =
       let k = constructed-least (atom_plan sig t) (sent_measure sig) x e in
       let ok = unifier_valid sig k.0 (atom_plan sig t).pairs k.1.0 ((has_sort-valid sig t (sort_in sig t) valid h, boolean-valid), variable_pairs-valid sig (with_term [] t) (term_vars-valid sig [] t (sort_in sig t) tt h)) in
       subst (IsWellSorted sig) (sym k.1.1) (subst (HasSort sig (term_under (image k.0) t)) (k.1.0.unifies.0 ∙ boolean-stays (image k.0)) (has_sort-under sig valid (image k.0) ok h))
 
-  atom-by : (t : Term) (x : Sent) → IsSorted t → (r : Unified) → atom_by sig t r ≡ builds x → IsWellSorted sig x
+  atom-by : (t : Term) (x : Sent) → IsSorted t → (r : Unified) → terms.atom_by sig t r ≡ terms.builds x → IsWellSorted sig x
   atom-by t x h (solved u) e = plain-atom t x h e
   atom-by t x h (clashes at) e = absurd (cc)
   atom-by t x h too_large e = plain-atom t x h e
 
   pub atom-sorted : (t : Term) (x : Sent) → IsSorted t → made_atom sig t ≡ builds x → IsWellSorted sig x
-  atom-sorted t x h e = atom-by t x h (unified ((sort_in sig t, boolean) ∷ [])) e
+  atom-sorted t x h e = atom-by t x h (unified ((sort_in sig t, boolean) ∷ [])) (builds_told (terms.made_atom sig t) x e)
 
   -- ---- applications
   have-own : (ts : List Term) → AllByRecursion IsSorted ts → HaveSorts sig (listed ts) (map (sort_in sig) ts)
@@ -144,7 +145,7 @@ module _ (sig : Signature) (valid : IsValid sig) (there : arity_of sig (record {
 
     pub application-sorted : (x : Term) → made_app sig n d ts ≡ builds x → IsSorted x
     application-sorted x e =
-        let k = constructed-least (app_plan sig n d ts) (term_measure sig) x e in
+        let k = constructed-least (app_plan sig n d ts) (term_measure sig) x (sym (app_counted sig n d ts l) ∙ builds_told (terms.made_app sig n d ts) x e) in
         subst IsSorted (sym k.1.1) (own-sort (term_under (image k.0) (app d.name made (listed ts))) (at_sorts d.params (map (apply_to (image k.0)) made) d.result) (under-sorted k.0 k.1.0))
 
   -- ---- connectives
@@ -165,9 +166,9 @@ module _ (sig : Signature) (valid : IsValid sig) (there : arity_of sig (record {
   whole-sorted Iff (p ∷ ps) h e = grouped-sorted binary.Iff p ps h.0 h.1
 
   pub connective-sorted : (c : Conn) (ps : List Sent) (x : Sent) → AreWellSorted sig ps → made_connective sig c ps ≡ builds x → IsWellSorted sig x
-  connective-sorted c ps x h e = go (takes c (length ps)) (λ f. whole-sorted c ps h f) e
+  connective-sorted c ps x h e = go (takes c (length ps)) (λ f. whole-sorted c ps h f) (builds_told (terms.made_connective sig c ps) x e)
     where
-      go : (b : Bool) → (b ≡ true → IsWellSorted sig (connected c ps)) → (if b then constructed (connective_plan ps (connected c ps)) (sent_measure sig) else refuses (refusal NotBuilt [])) ≡ builds x → IsWellSorted sig x
+      go : (b : Bool) → (b ≡ true → IsWellSorted sig (connected c ps)) → (if b then terms.constructed (connective_plan ps (connected c ps)) (sent_measure sig) else terms.refuses (terms.counts (terms.wanted c) (length ps))) ≡ terms.builds x → IsWellSorted sig x
       go true g f =
           let k = constructed-least (connective_plan ps (connected c ps)) (sent_measure sig) x f in
           let ok = unifier_valid sig k.0 (connective_plan ps (connected c ps)).pairs k.1.0 (variable_pairs-valid sig (with_sents [] ps) (sents_vars-valid sig [] ps tt h)) in

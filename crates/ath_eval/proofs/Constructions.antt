@@ -1,169 +1,115 @@
--- What the code's constructions answer is what the definitions come to.
-use Rattle.std.proofs.Common.{◌≡◌, ℕ, ◌+◌, ◌<◌, ◌≤◌, true, false, List, [], ◌∷◌, length, Option, Some, Result, Ok, Err, ◌⊎◌, inl, inr, refl, sym, ◌∙◌, ap, subst, arith}
+-- What the code's constructions answer, with the refusals as they are told.
+use Rattle.std.proofs.Common.{◌≡◌, ℕ, ◌<◌, ◌≤◌, ◌==◌, Bool, true, false, List, [], ◌∷◌, length, Result, Ok, Err, refl, sym, ◌∙◌, ap, subst, if◌then◌else◌, arith}
 use Rattle.std.proofs.lemmas.Grind.{common_steps}
-use Rattle.std.specs.Prelude.{nat_lt, slice_get}
+use Rattle.std.specs.Prelude.{nat_lt}
 use Rattle.ath_sorts.specs.declared.sorts.SVar.{SVar}
 use Rattle.ath_sorts.specs.declared.sorts.Sort.{Sort}
 use Rattle.ath_sorts.specs.declared.signature.Symbol.{Symbol}
-use Rattle.ath_sorts.specs.declared.substitution.UnifyError.TheVariants.{Clash}
-use Rattle.ath_sorts.specs.Limits.{is_small}
 use Rattle.ath_sorts.specs.Signature.{Signature, boolean}
 use Rattle.ath_sorts.specs.Sorts.{image}
-use Rattle.ath_sorts.specs.Unifiers.{HasUnifier, IsLeastUnifier, IsClash}
-use Rattle.ath_sorts.proofs.Bools.{true-not-false}
-use Rattle.ath_sorts.proofs.UnifierLaws.{agree}
-use Rattle.ath_terms.specs.declared.measure.BuildError.{BuildError}
-use Rattle.ath_terms.specs.declared.measure.BuildError.TheVariants.{SortClash, ArgCount, NotBoolean, TooLarge, TooDeep, SortTooLarge, Memory}
+use Rattle.ath_unifiers.specs.Unified.{Unified, solved, clashes, too_large, unified}
+use Rattle.ath_trees.specs.declared.node.Conn.{Conn}
 use Rattle.ath_trees.specs.declared.node.SentId.{SentId}
 use Rattle.ath_trees.specs.declared.node.TermId.{TermId}
-use Rattle.ath_terms.specs.Construction.{Plan, Measure, IsWithin, IsForbidden, MatchRefused, MatchTerm, MatchSent, MatchApp, MatchAtom, app_plan, equation_plan, ascription_plan, atom_plan, term_measure, sent_measure}
 use Rattle.ath_trees.specs.declared.limits.TheConstants.{MOST_TERM_NODES, MOST_TERM_LEVELS}
+use Rattle.ath_trees.specs.Measure.{IsSmall}
 use Rattle.ath_trees.specs.SortsIn.{sort_in}
-use Rattle.ath_trees.specs.Tree.{Term, Sent}
-use Rattle.ath_terms.specs.Trees.{Trees, term_at}
+use Rattle.ath_trees.specs.Tree.{Term, Sent, atom}
 use Rattle.ath_trees.specs.Under.{has_no_binder}
-use Rattle.ath_unifiers.specs.Unified.{Unified, solved, clashes, too_large, unified, IsUnified}
-use Rattle.ath_unifiers.proofs.Outcomes.{unified_is, answer_is}
-use Rattle.ath_unifiers.proofs.Searching.{unifies_take}
+use Rattle.ath_terms.specs.declared.measure.BuildError.{BuildError}
+use Rattle.ath_terms.specs.declared.measure.BuildError.TheVariants.{SortClash, ArgCount, NotBoolean, TooLarge, TooDeep, SortTooLarge, Memory}
+use Rattle.ath_terms.specs.Construction as terms
+use Rattle.ath_terms.specs.Construction.{Plan, Measure, app_plan, equation_plan, ascription_plan, atom_plan, connective_plan, connected, takes, term_measure, sent_measure}
+use Rattle.ath_terms.specs.Answers as answers
+use Rattle.ath_terms.specs.Trees.{Trees}
 use Rattle.ath_print.specs.declared.fault.FaultKind.TheVariants.{NotBoolean as Unfit}
 use Rattle.ath_print.specs.Events.{term_named}
 use Rattle.ath_eval.specs.Outcomes.{refusal}
-use Rattle.ath_eval.specs.Building.{Built, builds, refuses, clash, within, by_unifier, constructed, made_app, made_equation, made_ascription, atom_by, made_atom, why_unbuilt, IsRefused, IsTermBuilt, IsSentBuilt}
+use Rattle.ath_eval.specs.Building.{Built, builds, refuses, told, retold, made_app, made_equation, made_ascription, made_atom, made_connective}
+use Rattle.ath_eval.specs.Stands.{IsRefused, IsTermBuilt, IsSentBuilt}
 
--- ---- the limits of a tree
-within_built : {T : Type 0} (x : T) (m : Measure) → m.small ≡ true → m.nodes ≤ MOST_TERM_NODES → m.levels ≤ MOST_TERM_LEVELS → within x m ≡ builds x
-within_built x m s n l =
-    let a : nat_lt MOST_TERM_NODES m.nodes ≡ false = grind (arith, common_steps) in
-    let b : nat_lt MOST_TERM_LEVELS m.levels ≡ false = grind (arith, common_steps) in
-    rw (s, a, b) refl
+pub refused_told : {T : Type 0} (s : Trees) (b : terms.Built T) (e : BuildError) → answers.IsRefused s b e → IsRefused s (retold b) e
+refused_told s b (SortClash l r) h = λ n. (ap retold h, tt)
+refused_told s b (ArgCount want given) h = λ n. (ap retold h, tt)
+refused_told s b (NotBoolean t) (x, e, is) = λ n. (ap retold e ∙ ap (λ (y : Term). refuses (refusal Unfit (term_named y ∷ []))) (sym is.1), is.0)
+refused_told s b (TooLarge k) h = λ n. (ap retold h, tt)
+refused_told s b (TooDeep k) h = λ n. (ap retold h, tt)
+refused_told s b SortTooLarge h = λ n. (ap retold h, tt)
+refused_told s b Memory h = λ n. absurd (n refl)
 
-within_sort : {T : Type 0} (t : Trees) (x : T) (m : Measure) → m.small ≡ false → within x m ≡ refuses (why_unbuilt t SortTooLarge)
-within_sort t x m s = rw s refl
+pub builds_told : {T : Type 0} (b : terms.Built T) (x : T) → retold b ≡ builds x → b ≡ terms.builds x
+builds_told (terms.builds y) x e = let k : y ≡ x = cc in ap terms.builds k
+builds_told (terms.refuses why) x e = absurd (cc)
 
-within_large : {T : Type 0} (t : Trees) (x : T) (m : Measure) (n : ℕ) → m.small ≡ true → MOST_TERM_NODES < m.nodes → n ≡ m.nodes → within x m ≡ refuses (why_unbuilt t (TooLarge n))
-within_large t x m n s l e =
-    let a : nat_lt MOST_TERM_NODES m.nodes ≡ true = grind (arith, common_steps) in
-    rw (s, a, e) refl
+-- ---- what is built is within the limits
+pub record IsWithin (m : Measure) : Type 0 where
+  pub nodes : m.nodes ≤ MOST_TERM_NODES
+  pub levels : m.levels ≤ MOST_TERM_LEVELS
 
-within_deep : {T : Type 0} (t : Trees) (x : T) (m : Measure) (n : ℕ) → m.small ≡ true → m.nodes ≤ MOST_TERM_NODES → MOST_TERM_LEVELS < m.levels → n ≡ m.levels → within x m ≡ refuses (why_unbuilt t (TooDeep n))
-within_deep t x m n s k l e =
-    let a : nat_lt MOST_TERM_NODES m.nodes ≡ false = grind (arith, common_steps) in
-    let b : nat_lt MOST_TERM_LEVELS m.levels ≡ true = grind (arith, common_steps) in
-    rw (s, a, b, e) refl
+few : (a b : ℕ) → nat_lt a b ≡ false → b ≤ a
+few a b e = grind (arith, common_steps)
 
--- ---- one list of pairs has one outcome
-module _ (pairs : List (Sort × Sort)) where
-  clash_not_unified : (at : ℕ) (s : List (SVar × Sort)) → IsClash pairs at → IsLeastUnifier s pairs → ⊥
-  clash_not_unified at s c m = c.2 (image s, unifies_take (image s) (at + 1) pairs m.unifies)
+within_few : {T : Type 0} (x y : T) (m : Measure) → terms.within x m ≡ terms.builds y → IsWithin m × (x ≡ y)
+within_few {T} x y m e = go m.small (nat_lt MOST_TERM_NODES m.nodes) (nat_lt MOST_TERM_LEVELS m.levels) refl refl e
+  where
+    go : (a b d : Bool) → nat_lt MOST_TERM_NODES m.nodes ≡ b → nat_lt MOST_TERM_LEVELS m.levels ≡ d
+        → (if a then (if b then terms.refuses (terms.nodes_above m.nodes) else if d then terms.refuses (terms.levels_above m.levels) else terms.builds x) else terms.refuses terms.sort_above) ≡ terms.builds y
+        → IsWithin m × (x ≡ y)
+    go true true d p q f = absurd (cc)
+    go true false true p q f = absurd (cc)
+    go true false false p q f = (record { nodes = few MOST_TERM_NODES m.nodes p; levels = few MOST_TERM_LEVELS m.levels q }, cc)
+    go false b d p q f = absurd (cc)
 
-  same_image : (s t : List (SVar × Sort)) → IsLeastUnifier s pairs → IsLeastUnifier t pairs → image t ≡ image s
-  same_image s t m n = λ i v. agree t s pairs n m v i
+pub constructed_few : {T : Type 0} (p : Plan T) (m : T → Measure) (x : T) → terms.constructed p m ≡ terms.builds x → (u : List (SVar × Sort)) × (IsWithin (m x) × (x ≡ p.tree (image u)))
+constructed_few {T} p m x e = go (unified p.pairs) e
+  where
+    go : (r : Unified) → terms.by_unifier p m r ≡ terms.builds x → (u : List (SVar × Sort)) × (IsWithin (m x) × (x ≡ p.tree (image u)))
+    go (solved u) f = let k = within_few (p.tree (image u)) x (m (p.tree (image u))) f in (u, (subst (λ (y : T). IsWithin (m y)) k.1 k.0, sym k.1))
+    go (clashes at) f = absurd (cc)
+    go too_large f = absurd (cc)
 
-  large_image : (s t : List (SVar × Sort)) (v : SVar) → IsLeastUnifier s pairs → IsLeastUnifier t pairs → is_small (image s v) ≡ false → ((w : SVar) → is_small (image t w) ≡ true) → ⊥
-  large_image s t v m n large small = true-not-false (sym (small v) ∙ ap is_small (agree t s pairs n m v) ∙ large)
+small_term : (sig : Signature) (x : Term) → IsWithin (term_measure sig x) → IsSmall (atom x)
+small_term sig x h = record { nodes = h.nodes; levels = h.levels }
 
--- ---- a plan
-module _ {T : Type 0} (p : Plan T) (m : T → Measure) where
-  -- by the least unifier, whose images are within the limits
-  by_allowed : (u : List (SVar × Sort)) → IsLeastUnifier u p.pairs → ((v : SVar) → is_small (image u v) ≡ true) → constructed p m ≡ within (p.tree (image u)) (m (p.tree (image u)))
-  by_allowed u h small = go (unified p.pairs) (unified_is p.pairs)
-    where
-      go : (o : Unified) → IsUnified p.pairs o → by_unifier p m o ≡ within (p.tree (image u)) (m (p.tree (image u)))
-      go (solved t) k = ap (λ (f : SVar → Sort). within (p.tree f) (m (p.tree f))) (same_image p.pairs u t h k.0)
-      go (clashes at) k = absurd (clash_not_unified p.pairs at u k h)
-      go too_large k = absurd (large_image p.pairs k.0 u k.2.0 k.1 h k.2.1 small)
+small_sent : (sig : Signature) (x : Sent) → IsWithin (sent_measure sig x) → IsSmall x
+small_sent sig x h = record { nodes = h.nodes; levels = h.levels }
 
-  pub plan_built : (u : List (SVar × Sort)) → IsWithin u p.pairs (m (p.tree (image u))) → constructed p m ≡ builds (p.tree (image u))
-  plan_built u h =
-      by_allowed u h.allowed.unifier h.allowed.images
-      ∙ within_built (p.tree (image u)) (m (p.tree (image u))) h.allowed.sorts h.nodes h.levels
+-- ---- terms
+pub app_built : (sig : Signature) (s : Trees) (n : ℕ) (d : Symbol) (ts : List Term) (r : Result TermId BuildError) → length d.args ≡ length ts → answers.IsTermBuilt sig s (terms.made_app sig n d ts) r → IsTermBuilt sig s (made_app sig n d ts) r
+app_built sig s n d ts (Err e) l h = refused_told s (terms.made_app sig n d ts) e h
+app_built sig s n d ts (Ok t) l (x, e, is) = (x, ap retold e, is, small_term sig x (go (length d.args == length ts) e))
+  where
+    go : (b : Bool) → (if b then terms.constructed (app_plan sig n d ts) (term_measure sig) else terms.refuses (terms.counts (length d.args) (length ts))) ≡ terms.builds x → IsWithin (term_measure sig x)
+    go true f = (constructed_few (app_plan sig n d ts) (term_measure sig) x f).1.0
+    go false f = absurd (cc)
 
-  -- a clash
-  by_clash : (t : Trees) (at : ℕ) (a b : Sort) → IsClash p.pairs at → slice_get p.pairs at ≡ Some (a, b) → constructed p m ≡ refuses (why_unbuilt t (SortClash a b))
-  by_clash t at a b h e =
-      ap (by_unifier p m) (answer_is p.pairs (Err (Clash at)) (unified p.pairs) (unified_is p.pairs) h)
-      ∙ ap (λ (o : Option (Sort × Sort)). refuses (clash o)) e
+pub ascription_built : (sig : Signature) (s : Trees) (x : Term) (sort : Sort) (r : Result TermId BuildError) → answers.IsTermBuilt sig s (terms.made_ascription sig x sort) r → IsTermBuilt sig s (made_ascription sig x sort) r
+ascription_built sig s x sort (Err e) h = refused_told s (terms.made_ascription sig x sort) e h
+ascription_built sig s x sort (Ok t) (y, e, is) = (y, ap retold e, is, small_term sig y (constructed_few (ascription_plan sig x sort) (term_measure sig) y e).1.0)
 
-  -- a sort above the limits
-  by_forbidden : (t : Trees) (u : List (SVar × Sort)) → IsForbidden u p.pairs (m (p.tree (image u))).small → constructed p m ≡ refuses (why_unbuilt t SortTooLarge)
-  by_forbidden t u h = go (unified p.pairs) (unified_is p.pairs) h.above
-    where
-      go : (o : Unified) → IsUnified p.pairs o → ((v : SVar) × (is_small (image u v) ≡ false)) ⊎ ((m (p.tree (image u))).small ≡ false) → by_unifier p m o ≡ refuses (why_unbuilt t SortTooLarge)
-      go too_large k above = refl
-      go (clashes at) k above = absurd (clash_not_unified p.pairs at u k h.unifier)
-      go (solved s) k (inl large) = absurd (large_image p.pairs u s large.0 h.unifier k.0 large.1 k.2)
-      go (solved s) k (inr large) =
-          ap (λ (f : SVar → Sort). within (p.tree f) (m (p.tree f))) (same_image p.pairs u s h.unifier k.0)
-          ∙ within_sort t (p.tree (image u)) (m (p.tree (image u))) large
+-- ---- sentences
+sent_ok : (sig : Signature) (p : Plan Sent) (x : Sent) → ((f : SVar → Sort) → has_no_binder (p.tree f) ≡ true) → terms.constructed p (sent_measure sig) ≡ terms.builds x → IsSmall x × (has_no_binder x ≡ true)
+sent_ok sig p x free e =
+    let k = constructed_few p (sent_measure sig) x e in
+    (small_sent sig x k.1.0, ap has_no_binder k.1.1 ∙ free (image k.0))
 
-  pub plan_refused : (t : Trees) (e : BuildError) → MatchRefused p.pairs (λ f. m (p.tree f)) e → IsRefused t (constructed p m) e
-  plan_refused t (SortClash a b) h = λ n. (by_clash t h.0 a b h.1.0 h.1.1, tt)
-  plan_refused t SortTooLarge h = λ n. (by_forbidden t h.0 h.1, tt)
-  plan_refused t (TooLarge k) (u, (allowed, large, e)) = λ n. (by_allowed u allowed.unifier allowed.images ∙ within_large t (p.tree (image u)) (m (p.tree (image u))) k allowed.sorts large e, tt)
-  plan_refused t (TooDeep k) (u, (allowed, few, deep, e)) = λ n. (by_allowed u allowed.unifier allowed.images ∙ within_deep t (p.tree (image u)) (m (p.tree (image u))) k allowed.sorts few deep e, tt)
-  plan_refused t Memory h = λ n. absurd (n refl)
-  plan_refused t (ArgCount a b) h = absurd h
-  plan_refused t (NotBoolean i) h = absurd h
+pub equation_built : (sig : Signature) (s : Trees) (x y : Term) (r : Result SentId BuildError) → answers.IsSentBuilt s (terms.made_equation sig x y) r → IsSentBuilt s (made_equation sig x y) r
+equation_built sig s x y (Err e) h = refused_told s (terms.made_equation sig x y) e h
+equation_built sig s x y (Ok p) (z, e, is) = let k = sent_ok sig (equation_plan sig x y) z (λ f. refl) e in (z, ap retold e, is, k.0, k.1)
 
--- ---- terms and sentences
-pub term_built : (sig : Signature) (s : Trees) (p : Plan Term) (r : Result TermId BuildError) → MatchTerm sig s p r → IsTermBuilt sig s (constructed p (term_measure sig)) r
-term_built sig s p (Ok t) (u, (w, h)) = (p.tree (image u), plan_built p (term_measure sig) u w, h, record { nodes = w.nodes; levels = w.levels })
-term_built sig s p (Err e) h = plan_refused p (term_measure sig) s e h
+atom_ok : (sig : Signature) (x : Term) (z : Sent) (r : Unified) → terms.atom_by sig x r ≡ terms.builds z → IsSmall z × (has_no_binder z ≡ true)
+atom_ok sig x z (solved u) e = sent_ok sig (atom_plan sig x) z (λ f. refl) e
+atom_ok sig x z too_large e = sent_ok sig (atom_plan sig x) z (λ f. refl) e
+atom_ok sig x z (clashes at) e = absurd (cc)
 
-pub sent_built : (sig : Signature) (s : Trees) (p : Plan Sent) (r : Result SentId BuildError) → ((f : SVar → Sort) → has_no_binder (p.tree f) ≡ true) → MatchSent sig s p r → IsSentBuilt s (constructed p (sent_measure sig)) r
-sent_built sig s p (Ok q) free (u, (w, h)) = (p.tree (image u), plan_built p (sent_measure sig) u w, h, record { nodes = w.nodes; levels = w.levels }, free (image u))
-sent_built sig s p (Err e) free h = plan_refused p (sent_measure sig) s e h
+pub atom_built : (sig : Signature) (s : Trees) (x : Term) (r : Result SentId BuildError) → answers.IsSentBuilt s (terms.made_atom sig x) r → IsSentBuilt s (made_atom sig x) r
+atom_built sig s x (Err e) h = refused_told s (terms.made_atom sig x) e h
+atom_built sig s x (Ok p) (z, e, is) = let k = atom_ok sig x z (unified ((sort_in sig x, boolean) ∷ [])) e in (z, ap retold e, is, k.0, k.1)
 
--- an application to as many terms as are wanted
-pub app_built : (sig : Signature) (s : Trees) (n : ℕ) (d : Symbol) (ts : List Term) (r : Result TermId BuildError) → length d.args ≡ length ts → MatchApp sig s n d ts r → IsTermBuilt sig s (made_app sig n d ts) r
-app_built sig s n d ts (Ok t) e h = term_built sig s (app_plan sig n d ts) (Ok t) h.1
-app_built sig s n d ts (Err (ArgCount want given)) e h = absurd (h.2 (h.0 ∙ e ∙ sym h.1))
-app_built sig s n d ts (Err (SortClash a b)) e h = term_built sig s (app_plan sig n d ts) (Err (SortClash a b)) h.1
-app_built sig s n d ts (Err (NotBoolean t)) e h = term_built sig s (app_plan sig n d ts) (Err (NotBoolean t)) h.1
-app_built sig s n d ts (Err (TooLarge k)) e h = term_built sig s (app_plan sig n d ts) (Err (TooLarge k)) h.1
-app_built sig s n d ts (Err (TooDeep k)) e h = term_built sig s (app_plan sig n d ts) (Err (TooDeep k)) h.1
-app_built sig s n d ts (Err SortTooLarge) e h = term_built sig s (app_plan sig n d ts) (Err SortTooLarge) h.1
-app_built sig s n d ts (Err Memory) e h = λ k. absurd (k refl)
-
-pub equation_built : (sig : Signature) (s : Trees) (x y : Term) (r : Result SentId BuildError) → MatchSent sig s (equation_plan sig x y) r → IsSentBuilt s (made_equation sig x y) r
-equation_built sig s x y r h = sent_built sig s (equation_plan sig x y) r (λ f. refl) h
-
-pub ascription_built : (sig : Signature) (s : Trees) (x : Term) (sort : Sort) (r : Result TermId BuildError) → MatchTerm sig s (ascription_plan sig x sort) r → IsTermBuilt sig s (made_ascription sig x sort) r
-ascription_built sig s x sort r h = term_built sig s (ascription_plan sig x sort) r h
-
--- ---- atoms
-module _ (sig : Signature) (s : Trees) (id : TermId) (x : Term) (there : id.0 < length s.terms) (at_id : term_at s.terms id.0 ≡ x) where
-  abbrev first_pair : List (Sort × Sort)
-  first_pair = (sort_in sig x, boolean) ∷ []
-
-  no_clash : (at : ℕ) → HasUnifier first_pair → IsClash first_pair at → ⊥
-  no_clash at u c = c.2 (u.0, unifies_take u.0 (at + 1) first_pair u.1)
-
-  boolean_made : HasUnifier first_pair → made_atom sig x ≡ constructed (atom_plan sig x) (sent_measure sig)
-  boolean_made u = go (unified first_pair) (unified_is first_pair)
-    where
-      go : (o : Unified) → IsUnified first_pair o → atom_by sig x o ≡ constructed (atom_plan sig x) (sent_measure sig)
-      go (solved t) k = refl
-      go too_large k = refl
-      go (clashes at) k = absurd (no_clash at u k)
-
-  none_made : (i : TermId) → i ≡ id → (HasUnifier first_pair → ⊥) → IsRefused s (made_atom sig x) (NotBoolean i)
-  none_made i e u = λ n. rw e (go (unified first_pair) (unified_is first_pair) ∙ ap (λ (y : Term). refuses (refusal Unfit (term_named y ∷ []))) (sym at_id), there)
-    where
-      go : (o : Unified) → IsUnified first_pair o → atom_by sig x o ≡ refuses (refusal Unfit (term_named x ∷ []))
-      go (clashes at) k = refl
-      go (solved t) k = absurd (u (image t, k.0.unifies))
-      go too_large k = absurd (u (image k.0, k.1.unifies))
-
-  as_planned : (r : Result SentId BuildError) → HasUnifier first_pair × MatchSent sig s (atom_plan sig x) r → IsSentBuilt s (made_atom sig x) r
-  as_planned r h = subst (λ (b : Built Sent). IsSentBuilt s b r) (sym (boolean_made h.0)) (sent_built sig s (atom_plan sig x) r (λ f. refl) h.1)
-
-  pub atom_built : (r : Result SentId BuildError) → MatchAtom sig s id x r → IsSentBuilt s (made_atom sig x) r
-  atom_built (Ok p) h = as_planned (Ok p) h
-  atom_built (Err (NotBoolean i)) h = none_made i h.0 h.1
-  atom_built (Err Memory) h = λ n. absurd (n refl)
-  atom_built (Err (SortClash a b)) h = as_planned (Err (SortClash a b)) h
-  atom_built (Err (ArgCount m n)) h = as_planned (Err (ArgCount m n)) h
-  atom_built (Err (TooLarge k)) h = as_planned (Err (TooLarge k)) h
-  atom_built (Err (TooDeep k)) h = as_planned (Err (TooDeep k)) h
-  atom_built (Err SortTooLarge) h = as_planned (Err SortTooLarge) h
+pub connective_built : (sig : Signature) (s : Trees) (c : Conn) (ps : List Sent) (r : Result SentId BuildError) → ((f : SVar → Sort) → has_no_binder ((connective_plan ps (connected c ps)).tree f) ≡ true) → answers.IsSentBuilt s (terms.made_connective sig c ps) r → IsSentBuilt s (made_connective sig c ps) r
+connective_built sig s c ps (Err e) free h = refused_told s (terms.made_connective sig c ps) e h
+connective_built sig s c ps (Ok p) free (z, e, is) = let k = go (takes c (length ps)) e in (z, ap retold e, is, k.0, k.1)
+  where
+    go : (b : Bool) → (if b then terms.constructed (connective_plan ps (connected c ps)) (sent_measure sig) else terms.refuses (terms.counts (terms.wanted c) (length ps))) ≡ terms.builds z → IsSmall z × (has_no_binder z ≡ true)
+    go true f = sent_ok sig (connective_plan ps (connected c ps)) z free f
+    go false f = absurd (cc)

@@ -7,8 +7,8 @@ use Rattle.ath_syntax.specs.Nodes.{Nodes}
 use Rattle.ath_terms.specs.Trees.{Trees, Grows}
 use Rattle.ath_eval.specs.declared.frame.Frame.{Frame}
 use Rattle.ath_eval.specs.declared.frame.Frame.TheVariants.{Head, Argument, Ascription}
-use Rattle.ath_eval.specs.Machine.{Fills, Resumes}
-use Rattle.ath_eval.specs.Outcomes.{Context, Outcome}
+use Rattle.ath_eval.specs.Machine.{Scope, Fills, Resumes}
+use Rattle.ath_eval.specs.Outcomes.{Outcome}
 use Rattle.ath_eval.proofs.Arguments.{argument_grows, arguments_grow}
 
 pub drop_at : {A : Type 0} (xs : List A) (i : ℕ) (x : A) → slice_get xs i ≡ Some x → drop i xs ≡ x ∷ drop (i + 1) xs
@@ -20,7 +20,7 @@ drop_end [] (suc i) h = refl
 drop_end (x ∷ xs) zero h = cc
 drop_end (x ∷ xs) (suc i) h = drop_end xs i h
 
-module _ (c : Context) (nodes : Nodes) where
+module _ (c : Scope) (nodes : Nodes) where
   -- a frame that is pushed is resumed first
   pub resumes_push : (s : Trees) (fs : List Frame) (f : Frame) (r mid out : Outcome) → Fills c nodes s f r mid → Resumes c nodes s fs mid out → Resumes c nodes s (fs ++ f ∷ []) r out
   resumes_push s [] f r mid out h e = (r, refl, subst (λ x. Fills c nodes s f r x) (sym e) h)

@@ -1,12 +1,13 @@
--- Fuel never rises, the counters never fall, more fuel changes only what is left, and a step takes few sort variables.
-use Rattle.std.proofs.Common.{ℕ, ◌+◌, ◌*◌, ◌≤◌, arith}
-use Rattle.ath_eval.specs.Outcomes.{Context}
+-- Fuel never rises, the counters never fall, more fuel changes only what is left, and a step takes few fresh names.
+use Rattle.std.proofs.Common.{◌+◌, arith}
+use Rattle.ath_eval.specs.Outcomes.{Context, Environment}
 use Rattle.ath_eval.specs.Evaluation.{evaluated}
 use Rattle.ath_eval.specs.Laws.{MoreFuel, FuelNeverRises, StepsTakeFew}
+use Rattle.ath_eval.specs.Room.{charged}
 use Rattle.ath_eval.proofs.Regular.{IsKept, wider, evaluated-regular}
 
-anything : (c : Context) → IsKept c (λ v. Unit {0}) (λ p. Unit {0})
-anything c = record {
+anything : (c : Context) (env : Environment) → IsKept c env (λ v. Unit {0}) (λ p. Unit {0})
+anything c env = record {
   shown = λ p h. tt;
   named = λ x v e. tt;
   unsorted = λ x k n. tt;
@@ -20,15 +21,12 @@ anything c = record {
 }
 
 pub more-fuel : MoreFuel
-more-fuel = λ c levels x fuel k fresh s. (evaluated-regular c (λ v. Unit {0}) (λ p. Unit {0}) (anything c) levels x fresh).kept fuel k s
+more-fuel = λ c env levels x k left s. (evaluated-regular c env (λ v. Unit {0}) (λ p. Unit {0}) (anything c env) levels x left.fresh).kept left.fuel k s
 
 pub never-rises : FuelNeverRises
-never-rises = λ c levels x fuel fresh. (evaluated-regular c (λ v. Unit {0}) (λ p. Unit {0}) (anything c) levels x fresh).moves fuel
-
-few-more : (a b : ℕ) → a ≤ b → a + 0 ≤ b
-few-more a b h = omega (arith, h)
+never-rises = λ c env levels x left. (evaluated-regular c env (λ v. Unit {0}) (λ p. Unit {0}) (anything c env) levels x left.fresh).moves left.fuel
 
 pub take-few : StepsTakeFew
-take-few = λ c levels x fuel fresh bound w h.
-    wider (fresh.sort + 64 * fuel + 0) bound (evaluated c levels x fuel fresh) (few-more (fresh.sort + 64 * fuel) bound h)
-    ((evaluated-regular c (λ v. Unit {0}) (λ p. Unit {0}) (anything c) levels x fresh).room w fuel)
+take-few = λ c env levels x left bound w h.
+    wider (charged (left.fuel + 0) left.fresh) bound (evaluated c levels env x left) (omega (arith, h.0), omega (arith, h.1))
+    ((evaluated-regular c env (λ v. Unit {0}) (λ p. Unit {0}) (anything c env) levels x left.fresh).room w left.fuel)

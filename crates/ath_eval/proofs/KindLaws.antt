@@ -8,7 +8,8 @@ use Rattle.ath_trees.specs.Tree.{Term, atom}
 use Rattle.ath_terms.specs.Trees.{Trees, term_at}
 use Rattle.ath_env.specs.declared.value.Value as value
 use Rattle.ath_env.specs.declared.value.Value.TheVariants as code
-use Rattle.ath_env.specs.Values.{value_at, term_of}
+use Rattle.ath_env.specs.Values.{term_of}
+use Rattle.ath_env.specs.Stands.{value_at}
 use Rattle.ath_eval.specs.declared.kinds.Part.{Part as Piece}
 use Rattle.ath_eval.specs.declared.kinds.Part.TheVariants as piece
 use Rattle.ath_eval.specs.Applying.{Kinds, all_are, wrong_at, and_kind, kinds_of, Part, part_of}

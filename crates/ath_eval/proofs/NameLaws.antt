@@ -21,13 +21,14 @@ use Rattle.ath_terms.specs.Trees.{Trees}
 use Rattle.ath_trees.proofs.ValidSorts.{use_valid}
 use Rattle.ath_env.specs.declared.value.Value as value
 use Rattle.ath_env.specs.LookUp.{first_values, text_of, found_value, looked_up}
-use Rattle.ath_env.specs.Values.{Value, a_symbol, IsFound}
+use Rattle.ath_env.specs.Values.{Value, a_symbol}
+use Rattle.ath_env.specs.Stands.{IsFound}
 use Rattle.ath_env.proofs.ValueLaws.{found-some, found-none}
 use Rattle.ath_eval.specs.declared.world.Outcome as outcome
 use Rattle.ath_eval.specs.Arguments.{IsSmallValue, IsArgument}
 use Rattle.ath_eval.specs.Applying.{value_named}
 use Rattle.ath_eval.specs.Evaluation.{found, with_sort, sort_refusal}
-use Rattle.ath_eval.specs.Outcomes.{Context, Outcome, fails}
+use Rattle.ath_eval.specs.Outcomes.{Left, Context, Outcome, fails}
 use Rattle.ath_eval.specs.World.{IsAnswer, IsSteady}
 use Rattle.ath_eval.proofs.SymbolLaws.{some_is}
 
@@ -77,9 +78,9 @@ not_meant sig text (Err (TooWide a)) e h k n = h ∙ k
 not_meant sig text (Err (LooseParam a)) e h k n = h ∙ k
 not_meant sig text (Err SortTooLarge) e h k n = h ∙ k
 
-module _ (sig : Signature) (c : Context) (text : SortText) (same : c.signature ≡ sig) (r : Result Sort SigError) (m : MatchOutcome (meaning sig text) r) (t : Trees) (o : outcome.Outcome) (at : Pos) where
-  pub sorted_by : (sort : Sort) (go : Sort → Pos → ℕ → Fresh → Outcome) → r ≡ Ok sort → IsSteady t o (go sort at) → IsSteady t o (with_sort (meaning c.signature text) go at)
+module _ (sig : Signature) (c : Context) (text : SortText) (same : c.theory.signature ≡ sig) (r : Result Sort SigError) (m : MatchOutcome (meaning sig text) r) (t : Trees) (o : outcome.Outcome) (at : Pos) where
+  pub sorted_by : (sort : Sort) (go : Sort → Pos → Left → Outcome) → r ≡ Ok sort → IsSteady t o (go sort at) → IsSteady t o (with_sort (meaning c.theory.signature text) go at)
   sorted_by sort go e h = subst (λ (x : Result Sort SigError). IsSteady t o (with_sort x go at)) (sym (ap (λ (g : Signature). meaning g text) same ∙ meant sig text r sort m e)) h
 
-  pub sorted_not : (e : SigError) (go : Sort → Pos → ℕ → Fresh → Outcome) → r ≡ Err e → (e ≡ Memory → ⊥) → IsSteady t o (fails at (sort_refusal e)) → IsSteady t o (with_sort (meaning c.signature text) go at)
+  pub sorted_not : (e : SigError) (go : Sort → Pos → Left → Outcome) → r ≡ Err e → (e ≡ Memory → ⊥) → IsSteady t o (fails at (sort_refusal e)) → IsSteady t o (with_sort (meaning c.theory.signature text) go at)
   sorted_not e go k n h = subst (λ (x : Result Sort SigError). IsSteady t o (with_sort x go at)) (sym (ap (λ (g : Signature). meaning g text) same ∙ not_meant sig text r e m k n)) h

@@ -1,5 +1,6 @@
 -- What modus ponens answers.
-use Rattle.std.proofs.Common.{◌≡◌, ◌↔◌, ℕ, Bool, true, false, List, Option, refl, sym, ◌∙◌, subst, arith}
+use Rattle.std.specs.Prelude.{is_some}
+use Rattle.std.proofs.Common.{◌≡◌, ◌↔◌, Bool, true, false, List, Option, Some, None, refl, sym, ◌∙◌, subst, arith}
 use Rattle.ath_syntax.specs.declared.place.Pos.{Pos}
 use Rattle.ath_trees.specs.declared.node.Binary.TheVariants.{If}
 use Rattle.ath_trees.specs.Tree.{Sent, joined}
@@ -13,25 +14,41 @@ use Rattle.ath_eval.specs.Arguments.{IsSmallValue}
 use Rattle.ath_trees.specs.Same.{same_sent}
 use Rattle.ath_trees.proofs.SameLaws.{same_sent_is}
 use Rattle.ath_eval.specs.declared.world.Outcome as code
-use Rattle.ath_eval.specs.Methods.{holds, detached, from_implication, modus_ponens, wrong_shape, not_in_base}
-use Rattle.ath_eval.specs.Outcomes.{Outcome, concludes}
+use Rattle.ath_base.specs.Base.{Entry, holds}
+use Rattle.ath_eval.specs.Methods.{if_held, detached, from_implication, modus_ponens, wrong_shape, not_in_base}
+use Rattle.ath_eval.specs.Outcomes.{Left, Outcome, concludes}
 use Rattle.ath_eval.specs.World.{IsAnswer, IsSteady}
 
-module _ (base : List Sent) (p a b q : Sent) (at : Pos) (fuel : ℕ) (fresh : Fresh) (t : Bool) (same : (t ≡ true) ↔ (q ≡ a)) where
-  pub other_premise : t ≡ false → detached base p a b q at fuel fresh ≡ wrong_shape 2 at fuel fresh
+-- a sentence that the base holds, and one that it doesn't
+pub held : (o : Option Entry) (p : Sent) (go : Left → Outcome) (at : Pos) → is_some o ≡ true → if_held o p go at ≡ go
+held (Some e) p go at h = refl
+held None p go at h = cc
+
+pub not_held : (o : Option Entry) (p : Sent) (go : Left → Outcome) (at : Pos) → is_some o ≡ false → if_held o p go at ≡ not_in_base p at
+not_held None p go at h = refl
+not_held (Some e) p go at h = cc
+
+module _ (base : List Entry) (p a b q : Sent) (at : Pos) (t : Bool) (same : (t ≡ true) ↔ (q ≡ a)) where
+  pub other_premise : t ≡ false → detached base p a b q at ≡ wrong_shape 2 at
   other_premise e = let f : same_sent q a ≡ false = sym (same_sent_is t q a same) ∙ e in rw f refl
 
   module _ (e : t ≡ true) where
-    pub no_implication : holds base p ≡ false → detached base p a b q at fuel fresh ≡ not_in_base p at fuel fresh
-    no_implication h = let f : same_sent q a ≡ true = sym (same_sent_is t q a same) ∙ e in rw (f, h) refl
+    same-premise : detached base p a b q at ≡ if_held (holds base p) p (if_held (holds base q) q (concludes b) at) at
+    same-premise = let f : same_sent q a ≡ true = sym (same_sent_is t q a same) ∙ e in rw f refl
 
-    pub no_premise : holds base p ≡ true → holds base q ≡ false → detached base p a b q at fuel fresh ≡ not_in_base q at fuel fresh
-    no_premise h k = let f : same_sent q a ≡ true = sym (same_sent_is t q a same) ∙ e in rw (f, h, k) refl
+    pub no_implication : is_some (holds base p) ≡ false → detached base p a b q at ≡ not_in_base p at
+    no_implication h = same-premise ∙ not_held (holds base p) p (if_held (holds base q) q (concludes b) at) at h
 
-    pub conclusion : holds base p ≡ true → holds base q ≡ true → detached base p a b q at fuel fresh ≡ concludes b fuel fresh
-    conclusion h k = let f : same_sent q a ≡ true = sym (same_sent_is t q a same) ∙ e in rw (f, h, k) refl
+    both : is_some (holds base p) ≡ true → detached base p a b q at ≡ if_held (holds base q) q (concludes b) at
+    both h = same-premise ∙ held (holds base p) p (if_held (holds base q) q (concludes b) at) at h
 
-pub of_implication : (base : List Sent) (p a b : Sent) (q : Option Sent) → p ≡ joined If a b → modus_ponens base p q ≡ from_implication base p a b q
+    pub no_premise : is_some (holds base p) ≡ true → is_some (holds base q) ≡ false → detached base p a b q at ≡ not_in_base q at
+    no_premise h k = both h ∙ not_held (holds base q) q (concludes b) at k
+
+    pub conclusion : is_some (holds base p) ≡ true → is_some (holds base q) ≡ true → detached base p a b q at ≡ concludes b
+    conclusion h k = both h ∙ held (holds base q) q (concludes b) at k
+
+pub of_implication : (base : List Entry) (p a b : Sent) (q : Option Sent) → p ≡ joined If a b → modus_ponens base p q ≡ from_implication base p a b q
 of_implication base p a b q e = rw e refl
 
 pub small_right : (p a b : Sent) → p ≡ joined If a b → IsSmallValue (a_sentence p) → IsSmallValue (a_sentence b)
@@ -40,8 +57,8 @@ small_right p a b e h =
     let s : IsSmall (joined If a b) = k.0 in
     (record { nodes = omega (arith, s.nodes); levels = omega (arith, s.levels) }, (and_parts (has_no_binder a) (has_no_binder b) k.1).1)
 
-pub same_answer : (s : Trees) (o : code.Outcome) (f g : ℕ → Fresh → Outcome) → f ≡ g → IsSteady s o g → IsSteady s o f
-same_answer s o f g e h = subst (λ (x : ℕ → Fresh → Outcome). IsSteady s o x) (sym e) h
+pub same_answer : (s : Trees) (o : code.Outcome) (f g : Left → Outcome) → f ≡ g → IsSteady s o g → IsSteady s o f
+same_answer s o f g e h = subst (λ (x : Left → Outcome). IsSteady s o x) (sym e) h
 
-pub same_moving : (s : Trees) (fresh made : Fresh) (o : code.Outcome) (f g : ℕ → Fresh → Outcome) → f ≡ g → IsAnswer s fresh made o g → IsAnswer s fresh made o f
-same_moving s fresh made o f g e h = subst (λ (x : ℕ → Fresh → Outcome). IsAnswer s fresh made o x) (sym e) h
+pub same_moving : (s : Trees) (fresh made : Fresh) (o : code.Outcome) (f g : Left → Outcome) → f ≡ g → IsAnswer s fresh made o g → IsAnswer s fresh made o f
+same_moving s fresh made o f g e h = subst (λ (x : Left → Outcome). IsAnswer s fresh made o x) (sym e) h

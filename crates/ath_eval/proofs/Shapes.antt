@@ -10,16 +10,16 @@ use Rattle.ath_syntax.specs.declared.node.Node.{Node}
 use Rattle.ath_syntax.specs.Nodes.{Nodes}
 use Rattle.ath_syntax.specs.declared.node.SortText.{SortText}
 use Rattle.ath_syntax.specs.Tree.{Phrase, ascribe_at}
-use Rattle.ath_terms.specs.declared.fresh.Fresh.{Fresh}
 use Rattle.ath_syntax.specs.Stands.{IsPhrase, IsForm, is_name, is_variable, is_string, is_list, is_ascribe, is_apply, is_call, is_lambda, is_method, is_let, is_letrec, is_match, is_check, is_try, is_seq, is_assume, is_absurd, is_pick_any, is_pick_witness, is_induct, is_cases, is_conclude, ArePhrases, phrases_none}
 use Rattle.ath_syntax.proofs.NodeLaws.{node_of, node_at, form_of}
 use Rattle.ath_env.specs.LookUp.{looked_up}
 use Rattle.ath_env.specs.Values.{Value}
-use Rattle.ath_eval.specs.Evaluation.{form, found, variable, place, unbuilt}
-use Rattle.ath_eval.specs.Machine.{acts, arguments, form_arguments, node_arguments, arguments_at}
+use Rattle.ath_eval.specs.Evaluation.{evaluated, found, variable, unbuilt}
+use Rattle.ath_syntax.specs.Places.{place}
+use Rattle.ath_eval.specs.Machine.{Scope, evaluates, forms, acts, arguments, form_arguments, node_arguments, arguments_at}
 use Rattle.ath_eval.specs.Applying.{applied}
 use Rattle.ath_eval.specs.Methods.{called}
-use Rattle.ath_eval.specs.Outcomes.{Context, Evaluator, and_then, each}
+use Rattle.ath_eval.specs.Outcomes.{Left, and_then, each}
 
 module _ (nodes : Nodes) where
   pub form_here : (i : PhraseId) (n : Node) (x : Phrase) → IsPhrase nodes i x → slice_get nodes.phrases i.0 ≡ Some n → IsForm nodes n.pos n.form x
@@ -83,21 +83,21 @@ module _ (nodes : Nodes) where
   pub ascription_form : (p q : Pos) (f : Form) (x : Phrase) (s : SortText) → IsForm nodes p f (ascribe_at q x s) → (j : PhraseId) × (f ≡ Ascribe j s) × (p ≡ q)
   ascription_form p q f x s (is_ascribe {i = j} h) = (j, refl, refl)
 
-  module _ (c : Context) where
+  module _ (c : Scope) (levels : ℕ) where
     module _ (p : Pos) (x : Phrase) (v : Value) (vs : List Value) where
-      pub acts_apply : (f : Form) (j : PhraseId) (is : List PhraseId) → f ≡ Apply j is → IsForm nodes p f x → acts c x v vs ≡ applied c v vs p
+      pub acts_apply : (f : Form) (j : PhraseId) (is : List PhraseId) → f ≡ Apply j is → IsForm nodes p f x → acts c levels x v vs ≡ applied c.context (evaluated c.context levels) c.environment v vs p
       acts_apply f j is e h = go x (subst (λ (y : Form). IsForm nodes p y x) e h)
         where
-          go : (x : Phrase) → IsForm nodes p (Apply j is) x → acts c x v vs ≡ applied c v vs p
+          go : (x : Phrase) → IsForm nodes p (Apply j is) x → acts c levels x v vs ≡ applied c.context (evaluated c.context levels) c.environment v vs p
           go x (is_apply a b) = refl
 
-      pub acts_call : (f : Form) (j : PhraseId) (is : List PhraseId) → f ≡ Call j is → IsForm nodes p f x → acts c x v vs ≡ called c v vs p
+      pub acts_call : (f : Form) (j : PhraseId) (is : List PhraseId) → f ≡ Call j is → IsForm nodes p f x → acts c levels x v vs ≡ called c.context (evaluated c.context levels) c.environment v vs p
       acts_call f j is e h = go x (subst (λ (y : Form). IsForm nodes p y x) e h)
         where
-          go : (x : Phrase) → IsForm nodes p (Call j is) x → acts c x v vs ≡ called c v vs p
+          go : (x : Phrase) → IsForm nodes p (Call j is) x → acts c levels x v vs ≡ called c.context (evaluated c.context levels) c.environment v vs p
           go x (is_call a b) = refl
 
-    pub acts_other : (p : Pos) (v : Value) (vs : List Value) (f : Form) (x : Phrase) → ((j : PhraseId) (is : List PhraseId) → f ≡ Apply j is → ⊥) → ((j : PhraseId) (is : List PhraseId) → f ≡ Call j is → ⊥) → IsForm nodes p f x → acts c x v vs ≡ unbuilt p
+    pub acts_other : (p : Pos) (v : Value) (vs : List Value) (f : Form) (x : Phrase) → ((j : PhraseId) (is : List PhraseId) → f ≡ Apply j is → ⊥) → ((j : PhraseId) (is : List PhraseId) → f ≡ Call j is → ⊥) → IsForm nodes p f x → acts c levels x v vs ≡ unbuilt p
     acts_other p v vs f x na nc is_name = refl
     acts_other p v vs f x na nc is_variable = refl
     acts_other p v vs f x na nc is_string = refl
@@ -121,65 +121,64 @@ module _ (nodes : Nodes) where
     acts_other p v vs f x na nc (is_cases h k) = refl
     acts_other p v vs f x na nc (is_conclude h k) = refl
 
-    module _ (rec : Evaluator) where
-      pub form_name : (p : Pos) (f : Form) (x : Phrase) (n : Sym) → f ≡ Name n → IsForm nodes p f x → form c rec x ≡ found c n p (looked_up c.names c.signature n)
-      form_name p f x n e h = go x (subst (λ (y : Form). IsForm nodes p y x) e h)
-        where
-          go : (x : Phrase) → IsForm nodes p (Name n) x → form c rec x ≡ found c n p (looked_up c.names c.signature n)
-          go x is_name = refl
+    pub form_name : (p : Pos) (f : Form) (x : Phrase) (n : Sym) → f ≡ Name n → IsForm nodes p f x → forms c levels x ≡ found c.context n p (looked_up c.context.names c.context.theory.signature n)
+    form_name p f x n e h = go x (subst (λ (y : Form). IsForm nodes p y x) e h)
+      where
+        go : (x : Phrase) → IsForm nodes p (Name n) x → forms c levels x ≡ found c.context n p (looked_up c.context.names c.context.theory.signature n)
+        go x is_name = refl
 
-      pub form_variable : (p : Pos) (f : Form) (x : Phrase) (n : Sym) (k : ℕ) (s : Option SortText) → f ≡ Var n k s → IsForm nodes p f x → form c rec x ≡ variable c n k s p
-      form_variable p f x n k s e h = go x (subst (λ (y : Form). IsForm nodes p y x) e h)
-        where
-          go : (x : Phrase) → IsForm nodes p (Var n k s) x → form c rec x ≡ variable c n k s p
-          go x is_variable = refl
+    pub form_variable : (p : Pos) (f : Form) (x : Phrase) (n : Sym) (k : ℕ) (s : Option SortText) → f ≡ Var n k s → IsForm nodes p f x → forms c levels x ≡ variable c.context n k s p
+    form_variable p f x n k s e h = go x (subst (λ (y : Form). IsForm nodes p y x) e h)
+      where
+        go : (x : Phrase) → IsForm nodes p (Var n k s) x → forms c levels x ≡ variable c.context n k s p
+        go x is_variable = refl
 
-      pub form_other : (p : Pos) (f : Form) (x : Phrase) → ((n : Sym) → f ≡ Name n → ⊥) → ((n : Sym) (k : ℕ) (s : Option SortText) → f ≡ Var n k s → ⊥) → ((j : PhraseId) (s : SortText) → f ≡ Ascribe j s → ⊥) → ((j : PhraseId) (is : List PhraseId) → f ≡ Apply j is → ⊥) → ((j : PhraseId) (is : List PhraseId) → f ≡ Call j is → ⊥) → IsForm nodes p f x → form c rec x ≡ unbuilt p
-      form_other p f x nn nv ns na nc (is_name {x = n}) = absurd (nn n refl)
-      form_other p f x nn nv ns na nc (is_variable {x = n} {k = k} {o = s}) = absurd (nv n k s refl)
-      form_other p f x nn nv ns na nc is_string = refl
-      form_other p f x nn nv ns na nc (is_list h) = refl
-      form_other p f x nn nv ns na nc (is_ascribe {i = j} {o = s} h) = absurd (ns j s refl)
-      form_other p f x nn nv ns na nc (is_apply {i = j} {is = js} h k) = absurd (na j js refl)
-      form_other p f x nn nv ns na nc (is_call {i = j} {is = js} h k) = absurd (nc j js refl)
-      form_other p f x nn nv ns na nc (is_lambda h) = refl
-      form_other p f x nn nv ns na nc (is_method h) = refl
-      form_other p f x nn nv ns na nc (is_let h k) = refl
-      form_other p f x nn nv ns na nc (is_letrec h k) = refl
-      form_other p f x nn nv ns na nc (is_match h k) = refl
-      form_other p f x nn nv ns na nc (is_check h k) = refl
-      form_other p f x nn nv ns na nc (is_try h) = refl
-      form_other p f x nn nv ns na nc (is_seq h) = refl
-      form_other p f x nn nv ns na nc (is_assume h k) = refl
-      form_other p f x nn nv ns na nc (is_absurd h k) = refl
-      form_other p f x nn nv ns na nc (is_pick_any h) = refl
-      form_other p f x nn nv ns na nc (is_pick_witness h k) = refl
-      form_other p f x nn nv ns na nc (is_induct h k) = refl
-      form_other p f x nn nv ns na nc (is_cases h k) = refl
-      form_other p f x nn nv ns na nc (is_conclude h k) = refl
+    pub form_other : (p : Pos) (f : Form) (x : Phrase) → ((n : Sym) → f ≡ Name n → ⊥) → ((n : Sym) (k : ℕ) (s : Option SortText) → f ≡ Var n k s → ⊥) → ((j : PhraseId) (s : SortText) → f ≡ Ascribe j s → ⊥) → ((j : PhraseId) (is : List PhraseId) → f ≡ Apply j is → ⊥) → ((j : PhraseId) (is : List PhraseId) → f ≡ Call j is → ⊥) → IsForm nodes p f x → forms c levels x ≡ unbuilt p
+    form_other p f x nn nv ns na nc (is_name {x = n}) = absurd (nn n refl)
+    form_other p f x nn nv ns na nc (is_variable {x = n} {k = k} {o = s}) = absurd (nv n k s refl)
+    form_other p f x nn nv ns na nc is_string = refl
+    form_other p f x nn nv ns na nc (is_list h) = refl
+    form_other p f x nn nv ns na nc (is_ascribe {i = j} {o = s} h) = absurd (ns j s refl)
+    form_other p f x nn nv ns na nc (is_apply {i = j} {is = js} h k) = absurd (na j js refl)
+    form_other p f x nn nv ns na nc (is_call {i = j} {is = js} h k) = absurd (nc j js refl)
+    form_other p f x nn nv ns na nc (is_lambda h) = refl
+    form_other p f x nn nv ns na nc (is_method h) = refl
+    form_other p f x nn nv ns na nc (is_let h k) = refl
+    form_other p f x nn nv ns na nc (is_letrec h k) = refl
+    form_other p f x nn nv ns na nc (is_match h k) = refl
+    form_other p f x nn nv ns na nc (is_check h k) = refl
+    form_other p f x nn nv ns na nc (is_try h) = refl
+    form_other p f x nn nv ns na nc (is_seq h) = refl
+    form_other p f x nn nv ns na nc (is_assume h k) = refl
+    form_other p f x nn nv ns na nc (is_absurd h k) = refl
+    form_other p f x nn nv ns na nc (is_pick_any h) = refl
+    form_other p f x nn nv ns na nc (is_pick_witness h k) = refl
+    form_other p f x nn nv ns na nc (is_induct h k) = refl
+    form_other p f x nn nv ns na nc (is_cases h k) = refl
+    form_other p f x nn nv ns na nc (is_conclude h k) = refl
 
-      -- what is ascribed a sort
-      abbrev pub PartOf : Pos → SortText → PhraseId → Phrase → Type 0
-      PartOf p s j x = (h : Phrase) × IsPhrase nodes j h × (x ≡ ascribe_at p h s)
+    -- what is ascribed a sort
+    abbrev pub PartOf : Pos → SortText → PhraseId → Phrase → Type 0
+    PartOf p s j x = (h : Phrase) × IsPhrase nodes j h × (x ≡ ascribe_at p h s)
 
-      pub part_ascribed : (p : Pos) (f : Form) (x : Phrase) (j : PhraseId) (s : SortText) → f ≡ Ascribe j s → IsForm nodes p f x → PartOf p s j x
-      part_ascribed p f x j s e h = go x (subst (λ (y : Form). IsForm nodes p y x) e h)
-        where
-          go : (x : Phrase) → IsForm nodes p (Ascribe j s) x → PartOf p s j x
-          go x (is_ascribe {t = t} a) = (t, a, refl)
+    pub part_ascribed : (p : Pos) (f : Form) (x : Phrase) (j : PhraseId) (s : SortText) → f ≡ Ascribe j s → IsForm nodes p f x → PartOf p s j x
+    part_ascribed p f x j s e h = go x (subst (λ (y : Form). IsForm nodes p y x) e h)
+      where
+        go : (x : Phrase) → IsForm nodes p (Ascribe j s) x → PartOf p s j x
+        go x (is_ascribe {t = t} a) = (t, a, refl)
 
-      -- the head of an application or a call, and what becomes of its value
-      abbrev pub HeadOf : PhraseId → Phrase → Type 0
-      HeadOf j x = (h : Phrase) × IsPhrase nodes j h × ((fuel : ℕ) (fresh : Fresh) → form c rec x fuel fresh ≡ and_then (rec h fuel fresh) (λ v left made. each rec [] (arguments x) (acts c x v) left made))
+    -- the head of an application or a call, and what becomes of its value
+    abbrev pub HeadOf : PhraseId → Phrase → Type 0
+    HeadOf j x = (h : Phrase) × IsPhrase nodes j h × ((left : Left) → forms c levels x left ≡ and_then (evaluates c levels h left) (λ v. each (evaluates c levels) [] (arguments x) (acts c levels x v)))
 
-      pub head_applied : (p : Pos) (f : Form) (x : Phrase) (j : PhraseId) (is : List PhraseId) → f ≡ Apply j is → IsForm nodes p f x → HeadOf j x
-      head_applied p f x j is e h = go x (subst (λ (y : Form). IsForm nodes p y x) e h)
-        where
-          go : (x : Phrase) → IsForm nodes p (Apply j is) x → HeadOf j x
-          go x (is_apply {t = t} a b) = (t, a, λ fuel fresh. refl)
+    pub head_applied : (p : Pos) (f : Form) (x : Phrase) (j : PhraseId) (is : List PhraseId) → f ≡ Apply j is → IsForm nodes p f x → HeadOf j x
+    head_applied p f x j is e h = go x (subst (λ (y : Form). IsForm nodes p y x) e h)
+      where
+        go : (x : Phrase) → IsForm nodes p (Apply j is) x → HeadOf j x
+        go x (is_apply {t = t} a b) = (t, a, λ left. refl)
 
-      pub head_called : (p : Pos) (f : Form) (x : Phrase) (j : PhraseId) (is : List PhraseId) → f ≡ Call j is → IsForm nodes p f x → HeadOf j x
-      head_called p f x j is e h = go x (subst (λ (y : Form). IsForm nodes p y x) e h)
-        where
-          go : (x : Phrase) → IsForm nodes p (Call j is) x → HeadOf j x
-          go x (is_call {t = t} a b) = (t, a, λ fuel fresh. refl)
+    pub head_called : (p : Pos) (f : Form) (x : Phrase) (j : PhraseId) (is : List PhraseId) → f ≡ Call j is → IsForm nodes p f x → HeadOf j x
+    head_called p f x j is e h = go x (subst (λ (y : Form). IsForm nodes p y x) e h)
+      where
+        go : (x : Phrase) → IsForm nodes p (Call j is) x → HeadOf j x
+        go x (is_call {t = t} a b) = (t, a, λ left. refl)

@@ -9,31 +9,40 @@ use Rattle.ath_sorts.specs.declared.sorts.SVar.TheVariants.{Made}
 use Rattle.ath_sorts.specs.declared.sorts.Sort.{Sort}
 use Rattle.ath_sorts.specs.declared.signature.Symbol.{Symbol}
 use Rattle.ath_sorts.specs.Signature.{Signature, arity_of, symbol_of, boolean}
-use Rattle.ath_sorts.specs.Unifiers.{same_sort}
+use Rattle.ath_sorts.specs.Order.{same_sort}
 use Rattle.ath_sorts.specs.Validity.{IsValid}
 use Rattle.ath_sorts.proofs.SameSorts.{same_sort-true}
 use Rattle.ath_syntax.specs.declared.node.SortText.{SortText}
 use Rattle.ath_declarations.specs.Texts.{written_in, meaning}
 use Rattle.ath_declarations.proofs.Keeping.{meant_sort}
-use Rattle.ath_trees.specs.Tree.{Term, Sent, atom}
+use Rattle.ath_syntax.specs.Tree.{Phrase}
+use Rattle.ath_terms.specs.declared.fresh.Fresh.{Fresh}
+use Rattle.ath_terms.specs.Trees.{Trees}
+use Rattle.ath_trees.specs.Tree.{Term, Sent, atom, equal, negated, joined, bound}
 use Rattle.ath_trees.specs.WellSorted.{is_valid_sort, HasSort, var_has, IsWellSorted}
 use Rattle.ath_trees.proofs.ValidSorts.{valid-var, use_valid}
 use Rattle.ath_terms.proofs.ApplicationLaws.{found-name}
-use Rattle.ath_calculus.specs.Derives.{Derives, if_elim, IsIn}
+use Rattle.ath_calculus.specs.Derives.{Derives, if_elim, IsIn, AreDerivable}
+use Rattle.ath_calculus.specs.Theory.{Theory}
 use Rattle.ath_calculus.specs.Laws.{Extends, AreIn}
 use Rattle.ath_calculus.proofs.Grown.{derivation_kept, well_sorted}
-use Rattle.ath_env.specs.Values.{Value, a_term, a_sentence, a_symbol, a_connective, a_quantifier, a_back, a_method, term_of, sentence_of}
+use Rattle.ath_env.specs.Values.{Value, a_term, a_sentence, a_symbol, a_connective, a_quantifier, a_back, a_method, term_of, sentence_of, value_of}
 use Rattle.ath_env.specs.LookUp.{text_of, first_values, found_value}
-use Rattle.ath_eval.specs.Outcomes.{Context}
+use Rattle.ath_eval.specs.declared.world.Outcome as code
+use Rattle.ath_eval.specs.declared.world.Outcome.TheVariants as ends
+use Rattle.ath_eval.specs.Evaluation.{evaluated}
+use Rattle.ath_base.specs.Base.{sentences}
+use Rattle.ath_eval.specs.Outcomes.{Context, Environment, left_of, Outcome, gives, concludes, fails, exhausts}
 use Rattle.ath_eval.specs.Building.{builds, made_app}
 use Rattle.ath_eval.specs.Applying.{Kinds, all_are, wrong_at, and_kind, kinds_of, Part, term_part, sentence_part, part_of}
-use Rattle.ath_eval.specs.Laws.{IsSoundBase, ConclusionsFollow, IsSortedValue, ValuesAreSorted}
+use Rattle.ath_eval.specs.Laws.{ConclusionsFollow, IsSortedValue, ValuesAreSorted}
+use Rattle.ath_eval.specs.World.{IsOutcome, IsDerivable}
 use Rattle.ath_eval.proofs.Regular.{Yields, IsKept, evaluated-regular}
 use Rattle.ath_eval.proofs.Constructed.{IsSorted, own-sort, ascription-sorted, equation-sorted, application-sorted, IsSortedPart, joined-sorted}
 
 -- ---- conclusions
-follows : (c : Context) (asserted : List Sent) → IsSoundBase c.signature asserted c.base → IsKept c (λ v. Unit {0}) (Derives c.signature asserted [])
-follows c asserted sound = record {
+follows : (c : Context) (env : Environment) (asserted hyps : List Sent) → AreDerivable c.theory asserted hyps (sentences env.base) → IsKept c env (λ v. Unit {0}) (Derives c.theory asserted hyps)
+follows c env asserted hyps sound = record {
   shown = λ p h. tt;
   named = λ x v e. tt;
   unsorted = λ x k n. tt;
@@ -47,8 +56,21 @@ follows c asserted sound = record {
 }
 
 pub conclusions-follow : ConclusionsFollow
-conclusions-follow = λ c asserted levels x fuel left fresh made q sound e.
-    subst (Yields (λ v. Unit {0}) (Derives c.signature asserted [])) e ((evaluated-regular c (λ v. Unit {0}) (Derives c.signature asserted []) (follows c asserted sound) levels x fresh).yields fuel)
+conclusions-follow = λ c env asserted hyps levels x left after q sound e.
+    subst (Yields (λ v. Unit {0}) (Derives c.theory asserted hyps)) e ((evaluated-regular c env (λ v. Unit {0}) (Derives c.theory asserted hyps) (follows c env asserted hyps sound) levels x left.fresh).yields left.fuel)
+
+-- a theorem that the code gives is derivable
+pub theorem-derivable : (c : Context) (env : Environment) (asserted hyps : List Sent) (levels : ℕ) (x : Phrase) (fuel more : ℕ) (fresh made : Fresh) (s : Trees) (o : code.Outcome) → AreDerivable c.theory asserted hyps (sentences env.base) → IsOutcome s more made o (evaluated c levels env x (left_of fuel fresh)) → IsDerivable c.theory asserted hyps s o
+theorem-derivable c env asserted hyps levels x fuel more fresh made s o sound h = go o (evaluated c levels env x (left_of fuel fresh)) refl h
+  where
+    go : (o : code.Outcome) (r : Outcome) → evaluated c levels env x (left_of fuel fresh) ≡ r → IsOutcome s more made o r → IsDerivable c.theory asserted hyps s o
+    go (ends.Value v) r e h = tt
+    go (ends.Error at why) r e h = tt
+    go (ends.Exhausted at) r e h = tt
+    go (ends.Theorem p) (concludes q after) e h = subst (Derives c.theory asserted hyps) (sym h.0.1) (conclusions-follow c env asserted hyps levels x (left_of fuel fresh) after q sound e)
+    go (ends.Theorem p) (gives v after) e h = absurd h
+    go (ends.Theorem p) (fails at why after) e h = absurd h
+    go (ends.Theorem p) (exhausts at n) e h = absurd h
 
 -- ---- values
 -- where values have a property, what they are has one
@@ -66,6 +88,14 @@ all-of f P R each i (v ∷ vs) xs h e = go (f v) (kinds_of f (suc i) vs) (λ x g
         let r = b ys refl in
         let k : x ∷ ys ≡ xs = cc in
         subst (AreAll R (v ∷ vs)) k ((a x refl, r.0), ap suc r.1)
+
+-- the value of a well-sorted sentence
+sorted-value : (sig : Signature) (p : Sent) → IsWellSorted sig p → IsSortedValue sig (value_of p)
+sorted-value sig (atom t) h = h
+sorted-value sig (equal s t) h = h
+sorted-value sig (negated p) h = h
+sorted-value sig (joined c p q) h = h
+sorted-value sig (bound k v p) h = h
 
 -- none of the first values is a term or a sentence
 abbrev AreSorted : Signature → List (List ℕ × Value) → Type 0
@@ -86,18 +116,18 @@ found-sorted : (names : List (List ℕ)) (sig : Signature) (x : Sym) (o : Option
 found-sorted names sig x (Some d) v f = let k : a_symbol x ≡ v = cc in subst (IsSortedValue sig) k tt
 found-sorted names sig x None v f = lookup-sorted sig (bytes_eq (text_of names x)) first_values v (first-sorted sig) f
 
-module _ (c : Context) (asserted : List Sent) (valid : IsValid c.signature) (there : arity_of c.signature (record { 0 = 0 }) ≡ Some 0) (sound : IsSoundBase c.signature asserted c.base) where
+module _ (c : Context) (env : Environment) (asserted hyps : List Sent) (valid : IsValid c.theory.signature) (there : arity_of c.theory.signature (record { 0 = 0 }) ≡ Some 0) (sound : AreDerivable c.theory asserted hyps (sentences env.base)) where
   abbrev Sorted : Value → Type 0
-  Sorted v = IsSortedValue c.signature v
+  Sorted v = IsSortedValue c.theory.signature v
 
   abbrev HasOwn : Term → Type 0
-  HasOwn t = IsSorted c.signature valid there t
+  HasOwn t = IsSorted c.theory.signature valid there t
 
   abbrev HasOwnPart : Part → Type 0
-  HasOwnPart x = IsSortedPart c.signature valid there x
+  HasOwnPart x = IsSortedPart c.theory.signature valid there x
 
   term-of : (v : Value) (t : Term) → Sorted v → term_of v ≡ Some t → HasOwn t
-  term-of (a_term t r) u h e = let k : t ≡ u = cc in subst HasOwn k (own-sort c.signature valid there t r h)
+  term-of (a_term t r) u h e = let k : t ≡ u = cc in subst HasOwn k (own-sort c.theory.signature valid there t r h)
   term-of (a_sentence p) u h e = absurd (cc)
   term-of (a_symbol f) u h e = absurd (cc)
   term-of (a_connective q) u h e = absurd (cc)
@@ -106,7 +136,7 @@ module _ (c : Context) (asserted : List Sent) (valid : IsValid c.signature) (the
   term-of (a_method n) u h e = absurd (cc)
 
   part-of : (v : Value) (x : Part) → Sorted v → part_of v ≡ Some x → HasOwnPart x
-  part-of (a_term t r) x h e = let k : term_part t ≡ x = cc in subst HasOwnPart k (own-sort c.signature valid there t r h)
+  part-of (a_term t r) x h e = let k : term_part t ≡ x = cc in subst HasOwnPart k (own-sort c.theory.signature valid there t r h)
   part-of (a_sentence p) x h e = let k : sentence_part p ≡ x = cc in subst HasOwnPart k h
   part-of (a_symbol f) x h e = absurd (cc)
   part-of (a_connective q) x h e = absurd (cc)
@@ -115,32 +145,33 @@ module _ (c : Context) (asserted : List Sent) (valid : IsValid c.signature) (the
   part-of (a_method n) x h e = absurd (cc)
 
   -- a symbol that is found has its name
-  own-name : (f : Sym) (d : Symbol) → symbol_of c.signature f ≡ Some d → symbol_of c.signature d.name ≡ Some d
-  own-name f d is = ap (symbol_of c.signature) (found-name c.signature.symbols f d is) ∙ is
+  own-name : (f : Sym) (d : Symbol) → symbol_of c.theory.signature f ≡ Some d → symbol_of c.theory.signature d.name ≡ Some d
+  own-name f d is = ap (symbol_of c.theory.signature) (found-name c.theory.signature.symbols f d is) ∙ is
 
-  application : (d : Symbol) (vs : List Value) (ts : List Term) (n : ℕ) (x : Term) → symbol_of c.signature d.name ≡ Some d → length d.args ≡ length vs → AreAll HasOwn vs ts → made_app c.signature n d ts ≡ builds x → HasOwn x
-  application d vs ts n x is l h b = application-sorted c.signature valid there d n ts is (l ∙ h.1) h.0 x b
+  application : (d : Symbol) (vs : List Value) (ts : List Term) (n : ℕ) (x : Term) → symbol_of c.theory.signature d.name ≡ Some d → length d.args ≡ length vs → AreAll HasOwn vs ts → made_app c.theory.signature n d ts ≡ builds x → HasOwn x
+  application d vs ts n x is l h b = application-sorted c.theory.signature valid there d n ts is (l ∙ h.1) h.0 x b
 
-  meant-valid : (text : SortText) (s : Sort) → meaning c.signature text ≡ Ok s → is_valid_sort c.signature s ≡ true
-  meant-valid text s e = use_valid c.signature (written_in s) s (meant_sort c.signature text s e).there
+  meant-valid : (text : SortText) (s : Sort) → meaning c.theory.signature text ≡ Ok s → is_valid_sort c.theory.signature s ≡ true
+  meant-valid text s e = use_valid c.theory.signature (written_in s) s (meant_sort c.theory.signature text s e).there
 
-  sorted : IsKept c Sorted (Derives c.signature asserted [])
+  sorted : IsKept c env Sorted (Derives c.theory asserted hyps)
   sorted = record {
-    shown = λ p d. well_sorted d;
-    named = λ x v e. found-sorted c.names c.signature x (symbol_of c.signature x) v e;
-    unsorted = λ x k n. var_has (valid-var c.signature (Made n)) refl;
+    shown = λ p d. sorted-value c.theory.signature p (well_sorted d);
+    named = λ x v e. found-sorted c.names c.theory.signature x (symbol_of c.theory.signature x) v e;
+    unsorted = λ x k n. var_has (valid-var c.theory.signature (Made n)) refl;
     sorted = λ x k text s e. var_has (meant-valid text s e) refl;
-    ascribes = λ v t x text s h is e b. ascription-sorted c.signature valid there t x s (term-of v t h is) (meant-valid text s e) b;
+    ascribes = λ v t x text s h is e b. ascription-sorted c.theory.signature valid there t x s (term-of v t h is) (meant-valid text s e) b;
     applies = λ f d vs ts n x is h l e b. application d vs ts n x (own-name f d is) l (all-of term_of Sorted HasOwn term-of 1 vs ts h e) b;
-    equates = λ vs s t x h e b. let k = all-of term_of Sorted HasOwn term-of 1 vs (s ∷ t ∷ []) h e in equation-sorted c.signature valid there s t x k.0.0 k.0.1.0 b;
-    connects = λ k vs xs x h e b. joined-sorted c.signature valid there k xs x (all-of part_of Sorted HasOwnPart part-of 1 vs xs h e).0 b;
+    equates = λ vs s t x h e b. let k = all-of term_of Sorted HasOwn term-of 1 vs (s ∷ t ∷ []) h e in equation-sorted c.theory.signature valid there s t x k.0.0 k.0.1.0 b;
+    connects = λ k vs xs x h e b. joined-sorted c.theory.signature valid there k xs x (all-of part_of Sorted HasOwnPart part-of 1 vs xs h e).0 b;
     held = sound;
     detaches = λ p q d e. if_elim d e;
   }
 
 pub values-sorted : ValuesAreSorted
-values-sorted = λ c asserted levels x fuel left fresh made v valid there sound e.
-    subst (Yields (IsSortedValue c.signature) (Derives c.signature asserted [])) e ((evaluated-regular c (IsSortedValue c.signature) (Derives c.signature asserted []) (sorted c asserted valid there sound) levels x fresh).yields fuel)
+values-sorted = λ c env asserted hyps levels x left after v valid there sound e.
+    let sig = c.theory.signature in
+    subst (Yields (IsSortedValue sig) (Derives c.theory asserted hyps)) e ((evaluated-regular c env (IsSortedValue sig) (Derives c.theory asserted hyps) (sorted c env asserted hyps valid there sound) levels x left.fresh).yields left.fuel)
 
 -- the sentence that a well-sorted value is, is well-sorted
 pub sentence-sorted : (sig : Signature) (v : Value) (p : Sent) → IsSortedValue sig v → sentence_of v ≡ Some p → IsWellSorted sig p
@@ -159,30 +190,14 @@ sentence-sorted sig a_back p h e = absurd (cc)
 sentence-sorted sig (a_method n) p h e = absurd (cc)
 
 -- ---- what a session keeps
--- a sound base stays sound when the signature and the asserted sentences grow
-pub base_grown : (old new : Signature) (fewer others base : List Sent) → Extends old new → AreIn fewer others → IsSoundBase old fewer base → IsSoundBase new others base
-base_grown old new fewer others base grown among sound = λ p i. derivation_kept old new grown fewer others among (sound p i)
-
-in-last : (p q : Sent) (some : List Sent) → IsIn p (some ++ q ∷ []) → IsIn p some ⊎ (p ≡ q)
-in-last p q [] h = go h
-  where
-    go : (p ≡ q) ⊎ ⊥ → ⊥ ⊎ (p ≡ q)
-    go (inl e) = inr e
-    go (inr i) = absurd i
-in-last p q (r ∷ some) h = go h (in-last p q some)
-  where
-    again : IsIn p some ⊎ (p ≡ q) → ((p ≡ r) ⊎ IsIn p some) ⊎ (p ≡ q)
-    again (inl i) = inl (inr i)
-    again (inr e) = inr e
-
-    go : (p ≡ r) ⊎ IsIn p (some ++ q ∷ []) → (IsIn p (some ++ q ∷ []) → IsIn p some ⊎ (p ≡ q)) → ((p ≡ r) ⊎ IsIn p some) ⊎ (p ≡ q)
-    go (inl e) rec = inl (inl e)
-    go (inr i) rec = again (rec i)
+-- what is derivable stays so when the theory and the asserted sentences grow
+pub base_grown : (old new : Theory) (fewer others hyps base : List Sent) → Extends old new → AreIn fewer others → AreDerivable old fewer hyps base → AreDerivable new others hyps base
+base_grown old new fewer others hyps base grown among sound = λ p i. derivation_kept old new grown fewer others among (sound p i)
 
 -- a sentence that is derivable may join the base
-pub base_joined : (sig : Signature) (asserted base : List Sent) (q : Sent) → IsSoundBase sig asserted base → Derives sig asserted [] q → IsSoundBase sig asserted (base ++ q ∷ [])
-base_joined sig asserted base q sound d = λ p i. go p (in-last p q base i)
+pub base_joined : (th : Theory) (asserted hyps base : List Sent) (q : Sent) → AreDerivable th asserted hyps base → Derives th asserted hyps q → AreDerivable th asserted hyps (q ∷ base)
+base_joined th asserted hyps base q sound d = λ p i. go p i
   where
-    go : (p : Sent) → IsIn p base ⊎ (p ≡ q) → Derives sig asserted [] p
-    go p (inl i) = sound p i
-    go p (inr e) = subst (Derives sig asserted []) (sym e) d
+    go : (p : Sent) → (p ≡ q) ⊎ IsIn p base → Derives th asserted hyps p
+    go p (inl e) = subst (Derives th asserted hyps) (sym e) d
+    go p (inr i) = sound p i

@@ -24,9 +24,10 @@ use Rattle.ath_eval.specs.declared.frame.State.TheVariants.{Enter, Done}
 use Rattle.ath_eval.specs.declared.world.Outcome as code
 use Rattle.ath_eval.specs.declared.world.Outcome.TheVariants as ends
 use Rattle.ath_eval.specs.Arguments.{IsArgument, AreArguments}
-use Rattle.ath_eval.specs.Evaluation.{evaluated, form, found, variable, ascribed, place, unbuilt}
-use Rattle.ath_eval.specs.Machine.{acts, arguments_at, Resumes, Means, Steps, FormMeans, ArgumentsMean, rank, weight}
-use Rattle.ath_eval.specs.Outcomes.{Context, Outcome, fails, exhausts, refusal, and_then, each}
+use Rattle.ath_eval.specs.Evaluation.{found, variable, ascribed, unbuilt}
+use Rattle.ath_syntax.specs.Places.{place}
+use Rattle.ath_eval.specs.Machine.{Scope, evaluates, forms, acts, arguments_at, Resumes, Means, Steps, FormMeans, ArgumentsMean, rank, weight}
+use Rattle.ath_eval.specs.Outcomes.{Left, left_of, Outcome, fails, exhausts, refusal, and_then, each}
 use Rattle.ath_eval.specs.World.{IsOutcome, IsSteady}
 use Rattle.ath_eval.proofs.Frames.{drop_at, drop_end, resumes_push, grow_resumes}
 use Rattle.ath_eval.proofs.Shapes.{form_here, place_of, form_name, form_variable, form_other, head_applied, head_called, HeadOf, part_ascribed}
@@ -38,23 +39,23 @@ rank_below (ends.Error at why) = omega arith
 rank_below (ends.Exhausted at) = omega arith
 
 -- a step of fuel
-pub evaluated_empty : (c : Context) (levels : ℕ) (x : Phrase) (fuel : ℕ) (fresh : Fresh) → fuel ≡ 0 → evaluated c levels x fuel fresh ≡ exhausts (place x) fresh
+pub evaluated_empty : (c : Scope) (levels : ℕ) (x : Phrase) (fuel : ℕ) (fresh : Fresh) → fuel ≡ 0 → evaluates c levels x (left_of fuel fresh) ≡ exhausts (place x) fresh
 evaluated_empty c zero x zero fresh h = refl
 evaluated_empty c zero x (suc fuel) fresh h = cc
 evaluated_empty c (suc levels) x zero fresh h = refl
 evaluated_empty c (suc levels) x (suc fuel) fresh h = cc
 
-pub evaluated_deep : (c : Context) (levels : ℕ) (x : Phrase) (fuel : ℕ) (fresh : Fresh) → (fuel ≡ 0 → ⊥) → levels ≡ 0 → evaluated c levels x fuel fresh ≡ fails (place x) (refusal TooNested []) (fuel - 1) fresh
+pub evaluated_deep : (c : Scope) (levels : ℕ) (x : Phrase) (fuel : ℕ) (fresh : Fresh) → (fuel ≡ 0 → ⊥) → levels ≡ 0 → evaluates c levels x (left_of fuel fresh) ≡ fails (place x) (refusal TooNested []) (left_of (fuel - 1) fresh)
 evaluated_deep c zero x zero fresh h k = absurd (h refl)
 evaluated_deep c zero x (suc fuel) fresh h k = let q : suc fuel - 1 ≡ fuel = omega arith in rw q refl
 evaluated_deep c (suc levels) x fuel fresh h k = cc
 
-pub evaluated_form : (c : Context) (levels : ℕ) (x : Phrase) (fuel : ℕ) (fresh : Fresh) → (fuel ≡ 0 → ⊥) → (levels ≡ 0 → ⊥) → evaluated c levels x fuel fresh ≡ form c (evaluated c (levels - 1)) x (fuel - 1) fresh
+pub evaluated_form : (c : Scope) (levels : ℕ) (x : Phrase) (fuel : ℕ) (fresh : Fresh) → (fuel ≡ 0 → ⊥) → (levels ≡ 0 → ⊥) → evaluates c levels x (left_of fuel fresh) ≡ forms c (levels - 1) x (left_of (fuel - 1) fresh)
 evaluated_form c zero x fuel fresh h k = absurd (k refl)
 evaluated_form c (suc levels) x zero fresh h k = absurd (h refl)
 evaluated_form c (suc levels) x (suc fuel) fresh h k = let q : suc fuel - 1 ≡ fuel = omega arith in let q' : suc levels - 1 ≡ levels = omega arith in rw (q, q') refl
 
-module _ (c : Context) (nodes : Nodes) (s : Trees) where
+module _ (c : Scope) (nodes : Nodes) (s : Trees) where
   -- nothing is stored
   pub steps_same : (before : Outcome → Type 0) (bound fuel : ℕ) (made : Fresh) (st : State) (fs : List Frame) → weight fuel st fs < bound → ((out : Outcome) → before out → Means c nodes s fuel made st fs out) → Steps c nodes s before bound s fuel made st fs
   steps_same before bound fuel made st fs lt h = record { grows = grows-none s; means = h; falls = lt }
@@ -86,60 +87,60 @@ module _ (c : Context) (nodes : Nodes) (s : Trees) where
 
       pub enters_deep : (levels fuel : ℕ) → (fuel ≡ 0 → ⊥) → levels ≡ 0 → (o : code.Outcome) → IsSteady s o (fails n.pos (refusal TooNested [])) → Means c nodes s fuel fresh (Enter i levels) fs out → Means c nodes s (fuel - 1) fresh (Done o) fs out
       enters_deep levels fuel z d o h (x, isp, res) =
-          (fails n.pos (refusal TooNested []) (fuel - 1) fresh, h fresh (fuel - 1), subst (λ (r : Outcome). Resumes c nodes s fs r out) (evaluated_deep c levels x fuel fresh z d ∙ ap (λ p. fails p (refusal TooNested []) (fuel - 1) fresh) (place_here x isp)) res)
+          (fails n.pos (refusal TooNested []) (left_of (fuel - 1) fresh), h fresh (fuel - 1), subst (λ (r : Outcome). Resumes c nodes s fs r out) (evaluated_deep c levels x fuel fresh z d ∙ ap (λ p. fails p (refusal TooNested []) (left_of (fuel - 1) fresh)) (place_here x isp)) res)
 
       module _ (levels fuel : ℕ) where
-        here : (x : Phrase) → IsPhrase nodes i x → Resumes c nodes s fs (form c (evaluated c levels) x fuel fresh) out → (r : ℕ → Fresh → Outcome) → form c (evaluated c levels) x ≡ r → Resumes c nodes s fs (r fuel fresh) out
-        here x isp res r e = subst (λ (q : Outcome). Resumes c nodes s fs q out) (ap (λ (q : ℕ → Fresh → Outcome). q fuel fresh) e) res
+        here : (x : Phrase) → IsPhrase nodes i x → Resumes c nodes s fs (forms c levels x (left_of fuel fresh)) out → (r : Left → Outcome) → forms c levels x ≡ r → Resumes c nodes s fs (r (left_of fuel fresh)) out
+        here x isp res r e = subst (λ (q : Outcome). Resumes c nodes s fs q out) (ap (λ (q : Left → Outcome). q (left_of fuel fresh)) e) res
 
-        pub form_named : (name : Sym) → n.form ≡ Name name → FormMeans c nodes s fuel fresh i levels fs out → Resumes c nodes s fs (found c name n.pos (looked_up c.names c.signature name) fuel fresh) out
-        form_named name e (x, isp, res) = here x isp res (found c name n.pos (looked_up c.names c.signature name)) (form_name nodes c (evaluated c levels) n.pos n.form x name e (form_here nodes i n x isp at))
+        pub form_named : (name : Sym) → n.form ≡ Name name → FormMeans c nodes s fuel fresh i levels fs out → Resumes c nodes s fs (found c.context name n.pos (looked_up c.context.names c.context.theory.signature name) (left_of fuel fresh)) out
+        form_named name e (x, isp, res) = here x isp res (found c.context name n.pos (looked_up c.context.names c.context.theory.signature name)) (form_name nodes c levels n.pos n.form x name e (form_here nodes i n x isp at))
 
-        pub form_varied : (name : Sym) (k : ℕ) (text : Option SortText) → n.form ≡ Var name k text → FormMeans c nodes s fuel fresh i levels fs out → Resumes c nodes s fs (variable c name k text n.pos fuel fresh) out
-        form_varied name k text e (x, isp, res) = here x isp res (variable c name k text n.pos) (form_variable nodes c (evaluated c levels) n.pos n.form x name k text e (form_here nodes i n x isp at))
+        pub form_varied : (name : Sym) (k : ℕ) (text : Option SortText) → n.form ≡ Var name k text → FormMeans c nodes s fuel fresh i levels fs out → Resumes c nodes s fs (variable c.context name k text n.pos (left_of fuel fresh)) out
+        form_varied name k text e (x, isp, res) = here x isp res (variable c.context name k text n.pos) (form_variable nodes c levels n.pos n.form x name k text e (form_here nodes i n x isp at))
 
         pub form_ascribed : (j : PhraseId) (text : SortText) → n.form ≡ Ascribe j text → FormMeans c nodes s fuel fresh i levels fs out → Means c nodes s fuel fresh (Enter j levels) (fs ++ Ascription i ∷ []) out
         form_ascribed j text e (x, isp, res) =
-            let k = part_ascribed nodes c (evaluated c levels) n.pos n.form x j text e (form_here nodes i n x isp at) in (
+            let k = part_ascribed nodes c levels n.pos n.form x j text e (form_here nodes i n x isp at) in (
               k.0,
               k.1,
-              resumes_push c nodes s fs (Ascription i) (evaluated c levels k.0 fuel fresh) (and_then (evaluated c levels k.0 fuel fresh) (λ v left made. ascribed c text v n.pos left made)) out
-                  (n.pos, k.0, text, subst (λ (y : Phrase). IsPhrase nodes i y) k.2 isp, refl) (subst (λ (y : Phrase). Resumes c nodes s fs (form c (evaluated c levels) y fuel fresh) out) k.2 res),
+              resumes_push c nodes s fs (Ascription i) (evaluates c levels k.0 (left_of fuel fresh)) (and_then (evaluates c levels k.0 (left_of fuel fresh)) (λ v. ascribed c.context text v n.pos)) out
+                  (n.pos, k.0, text, subst (λ (y : Phrase). IsPhrase nodes i y) k.2 isp, refl) (subst (λ (y : Phrase). Resumes c nodes s fs (forms c levels y (left_of fuel fresh)) out) k.2 res),
             )
 
-        pub form_unbuilt : ((k : Sym) → n.form ≡ Name k → ⊥) → ((x : Sym) (k : ℕ) (text : Option SortText) → n.form ≡ Var x k text → ⊥) → ((j : PhraseId) (text : SortText) → n.form ≡ Ascribe j text → ⊥) → ((j : PhraseId) (is : List PhraseId) → n.form ≡ Apply j is → ⊥) → ((j : PhraseId) (is : List PhraseId) → n.form ≡ Call j is → ⊥) → FormMeans c nodes s fuel fresh i levels fs out → Resumes c nodes s fs (unbuilt n.pos fuel fresh) out
-        form_unbuilt nn nv ns na nc (x, isp, res) = here x isp res (unbuilt n.pos) (form_other nodes c (evaluated c levels) n.pos n.form x nn nv ns na nc (form_here nodes i n x isp at))
+        pub form_unbuilt : ((k : Sym) → n.form ≡ Name k → ⊥) → ((x : Sym) (k : ℕ) (text : Option SortText) → n.form ≡ Var x k text → ⊥) → ((j : PhraseId) (text : SortText) → n.form ≡ Ascribe j text → ⊥) → ((j : PhraseId) (is : List PhraseId) → n.form ≡ Apply j is → ⊥) → ((j : PhraseId) (is : List PhraseId) → n.form ≡ Call j is → ⊥) → FormMeans c nodes s fuel fresh i levels fs out → Resumes c nodes s fs (unbuilt n.pos (left_of fuel fresh)) out
+        form_unbuilt nn nv ns na nc (x, isp, res) = here x isp res (unbuilt n.pos) (form_other nodes c levels n.pos n.form x nn nv ns na nc (form_here nodes i n x isp at))
 
-        head_pushed : (j : PhraseId) (x : Phrase) → IsPhrase nodes i x → HeadOf nodes c (evaluated c levels) j x → Resumes c nodes s fs (form c (evaluated c levels) x fuel fresh) out → Means c nodes s fuel fresh (Enter j levels) (fs ++ Head i levels ∷ []) out
+        head_pushed : (j : PhraseId) (x : Phrase) → IsPhrase nodes i x → HeadOf nodes c levels j x → Resumes c nodes s fs (forms c levels x (left_of fuel fresh)) out → Means c nodes s fuel fresh (Enter j levels) (fs ++ Head i levels ∷ []) out
         head_pushed j x isp (h, ish, e) res =
-            (h, ish, resumes_push c nodes s fs (Head i levels) (evaluated c levels h fuel fresh) _ out (x, isp, refl) (subst (λ (q : Outcome). Resumes c nodes s fs q out) (e fuel fresh) res))
+            (h, ish, resumes_push c nodes s fs (Head i levels) (evaluates c levels h (left_of fuel fresh)) _ out (x, isp, refl) (subst (λ (q : Outcome). Resumes c nodes s fs q out) (e (left_of fuel fresh)) res))
 
         pub form_applied : (j : PhraseId) (is : List PhraseId) → n.form ≡ Apply j is → FormMeans c nodes s fuel fresh i levels fs out → Means c nodes s fuel fresh (Enter j levels) (fs ++ Head i levels ∷ []) out
-        form_applied j is e (x, isp, res) = head_pushed j x isp (head_applied nodes c (evaluated c levels) n.pos n.form x j is e (form_here nodes i n x isp at)) res
+        form_applied j is e (x, isp, res) = head_pushed j x isp (head_applied nodes c levels n.pos n.form x j is e (form_here nodes i n x isp at)) res
 
         pub form_called : (j : PhraseId) (is : List PhraseId) → n.form ≡ Call j is → FormMeans c nodes s fuel fresh i levels fs out → Means c nodes s fuel fresh (Enter j levels) (fs ++ Head i levels ∷ []) out
-        form_called j is e (x, isp, res) = head_pushed j x isp (head_called nodes c (evaluated c levels) n.pos n.form x j is e (form_here nodes i n x isp at)) res
+        form_called j is e (x, isp, res) = head_pushed j x isp (head_called nodes c levels n.pos n.form x j is e (form_here nodes i n x isp at)) res
 
     pub enters_form : (levels fuel : ℕ) → (fuel ≡ 0 → ⊥) → (levels ≡ 0 → ⊥) → Means c nodes s fuel fresh (Enter i levels) fs out → FormMeans c nodes s (fuel - 1) fresh i (levels - 1) fs out
     enters_form levels fuel z d (x, isp, res) = (x, isp, subst (λ (r : Outcome). Resumes c nodes s fs r out) (evaluated_form c levels x fuel fresh z d) res)
 
     -- the arguments
     module _ (h : value.Value) (done : List value.Value) (levels fuel : ℕ) where
-      each_end : (vs : List Value) (rest : Phrases) (go : List Value → ℕ → Fresh → Outcome) → ArePhrases nodes [] rest → Resumes c nodes s fs (each (evaluated c levels) vs rest go fuel fresh) out → Resumes c nodes s fs (go vs fuel fresh) out
+      each_end : (vs : List Value) (rest : Phrases) (go : List Value → Left → Outcome) → ArePhrases nodes [] rest → Resumes c nodes s fs (each (evaluates c levels) vs rest go (left_of fuel fresh)) out → Resumes c nodes s fs (go vs (left_of fuel fresh)) out
       each_end vs rest go phrases_none r = r
 
-      pub arguments_done : slice_get (arguments_at nodes i) (length done) ≡ None → ArgumentsMean c nodes s fuel fresh i h done levels fs out → (x : Phrase) × (v : Value) × (vs : List Value) × IsPhrase nodes i x × IsArgument s h v × AreArguments s done vs × Resumes c nodes s fs (acts c x v vs fuel fresh) out
+      pub arguments_done : slice_get (arguments_at nodes i) (length done) ≡ None → ArgumentsMean c nodes s fuel fresh i h done levels fs out → (x : Phrase) × (v : Value) × (vs : List Value) × IsPhrase nodes i x × IsArgument s h v × AreArguments s done vs × Resumes c nodes s fs (acts c levels x v vs (left_of fuel fresh)) out
       arguments_done none (x, v, vs, rest, isp, isv, all, few, phrases, res) =
-          (x, v, vs, isp, isv, all, each_end vs rest (acts c x v) (subst (λ is. ArePhrases nodes is rest) (drop_end (arguments_at nodes i) (length done) none) phrases) res)
+          (x, v, vs, isp, isv, all, each_end vs rest (acts c levels x v) (subst (λ is. ArePhrases nodes is rest) (drop_end (arguments_at nodes i) (length done) none) phrases) res)
 
       pub arguments_next : (j : PhraseId) → slice_get (arguments_at nodes i) (length done) ≡ Some j → length done < most → ArgumentsMean c nodes s fuel fresh i h done levels fs out → Means c nodes s fuel fresh (Enter j levels) (fs ++ Argument i h done levels ∷ []) out
       arguments_next j some few (x, v, vs, rest, isp, isv, all, le, phrases, res) =
           go rest (subst (λ is. ArePhrases nodes is rest) (drop_at (arguments_at nodes i) (length done) j some) phrases) res
         where
-          go : (rest : Phrases) → ArePhrases nodes (j ∷ drop (length done + 1) (arguments_at nodes i)) rest → Resumes c nodes s fs (each (evaluated c levels) vs rest (acts c x v) fuel fresh) out → Means c nodes s fuel fresh (Enter j levels) (fs ++ Argument i h done levels ∷ []) out
+          go : (rest : Phrases) → ArePhrases nodes (j ∷ drop (length done + 1) (arguments_at nodes i)) rest → Resumes c nodes s fs (each (evaluates c levels) vs rest (acts c levels x v) (left_of fuel fresh)) out → Means c nodes s fuel fresh (Enter j levels) (fs ++ Argument i h done levels ∷ []) out
           go rest (phrases_more {t = t} {ts = ts} ist all') r =
-              (t, ist, resumes_push c nodes s fs (Argument i h done levels) (evaluated c levels t fuel fresh) _ out (x, v, vs, ts, isp, isv, all, few, all', refl) r)
+              (t, ist, resumes_push c nodes s fs (Argument i h done levels) (evaluates c levels t (left_of fuel fresh)) _ out (x, v, vs, ts, isp, isv, all, few, all', refl) r)
 
 -- what a stretch keeps, at an equal context
-pub carried : (r q : Context) (nodes : Nodes) (s t : Trees) (before : Outcome → Type 0) (bound fuel : ℕ) (made : Fresh) (st : State) (fs : List Frame) → q ≡ r → Steps r nodes s before bound t fuel made st fs → (out : Outcome) → before out → Means q nodes t fuel made st fs out
-carried r q nodes s t before bound fuel made st fs e k out m = subst (λ (b : Context). Means b nodes t fuel made st fs out) (sym e) (k.means out m)
+pub carried : (r q : Scope) (nodes : Nodes) (s t : Trees) (before : Outcome → Type 0) (bound fuel : ℕ) (made : Fresh) (st : State) (fs : List Frame) → q ≡ r → Steps r nodes s before bound t fuel made st fs → (out : Outcome) → before out → Means q nodes t fuel made st fs out
+carried r q nodes s t before bound fuel made st fs e k out m = subst (λ (b : Scope). Means b nodes t fuel made st fs out) (sym e) (k.means out m)

@@ -13,22 +13,22 @@ use Rattle.ath_terms.specs.Construction.{wanted, takes}
 use Rattle.ath_env.specs.Values.{Value, a_term, a_sentence, a_symbol, a_connective, a_quantifier, a_back, a_method, term_of}
 use Rattle.ath_print.specs.declared.fault.FaultKind.TheVariants.{ArgCount, WrongKind, NotApplicable, NotBuilt}
 use Rattle.ath_print.specs.Events.{number_named}
-use Rattle.ath_eval.specs.Outcomes.{Context, Outcome, gives, fails, refusal}
+use Rattle.ath_eval.specs.Outcomes.{Context, Environment, Left, Outcome, Evaluator, gives, fails, refusal}
 use Rattle.ath_eval.specs.Building.{Built, builds, refuses, made_app, made_equation, made_atom, made_connective}
 
 -- this many arguments were wanted, and that many were given
-abbrev pub miscounted : ℕ → List Value → Pos → ℕ → Fresh → Outcome
+abbrev pub miscounted : ℕ → List Value → Pos → Left → Outcome
 miscounted want vs at = fails at (refusal ArgCount (number_named want ∷ number_named (length vs) ∷ []))
 
-abbrev pub wrong_kind : ℕ → Pos → ℕ → Fresh → Outcome
+abbrev pub wrong_kind : ℕ → Pos → Left → Outcome
 wrong_kind i at = fails at (refusal WrongKind (number_named i ∷ []))
 
 -- a term that is built, with its sort
-abbrev pub gives_term : Signature → Built Term → Pos → ℕ → Fresh → Outcome
+abbrev pub gives_term : Signature → Built Term → Pos → Left → Outcome
 gives_term sig (builds t) at = gives (a_term t (sort_in sig t))
 gives_term sig (refuses why) at = fails at why
 
-abbrev pub gives_sentence : Built Sent → Pos → ℕ → Fresh → Outcome
+abbrev pub gives_sentence : Built Sent → Pos → Left → Outcome
 gives_sentence (builds p) at = gives (a_sentence p)
 gives_sentence (refuses why) at = fails at why
 
@@ -51,26 +51,26 @@ kinds_of f i (v ∷ vs) = and_kind i (f v) (kinds_of f (suc i) vs)
 abbrev pub after_params : Symbol → Fresh → Fresh
 after_params d fresh = record fresh { sort = fresh.sort + length d.params }
 
-abbrev pub symbol_to : Signature → Symbol → Kinds Term → Pos → ℕ → Fresh → Outcome
-symbol_to sig d (wrong_at i) at fuel fresh = wrong_kind i at fuel fresh
-symbol_to sig d (all_are ts) at fuel fresh = gives_term sig (made_app sig fresh.sort d ts) at fuel (after_params d fresh)
+abbrev pub symbol_to : Signature → Symbol → Kinds Term → Pos → Left → Outcome
+symbol_to sig d (wrong_at i) at left = wrong_kind i at left
+symbol_to sig d (all_are ts) at left = gives_term sig (made_app sig left.fresh.sort d ts) at (record left { fresh = after_params d left.fresh })
 
-abbrev pub symbol_applied : Signature → Symbol → List Value → Pos → ℕ → Fresh → Outcome
+abbrev pub symbol_applied : Signature → Symbol → List Value → Pos → Left → Outcome
 symbol_applied sig d vs =
     if length d.args == length vs
     then symbol_to sig d (kinds_of term_of 1 vs)
     else miscounted (length d.args) vs
 
 -- ---- an equation
-abbrev pub equation_of : Signature → List Term → Pos → ℕ → Fresh → Outcome
+abbrev pub equation_of : Signature → List Term → Pos → Left → Outcome
 equation_of sig (s ∷ t ∷ []) = gives_sentence (made_equation sig s t)
 equation_of sig ts = λ at. fails at (refusal NotBuilt [])
 
-abbrev pub equation_to : Signature → Kinds Term → Pos → ℕ → Fresh → Outcome
+abbrev pub equation_to : Signature → Kinds Term → Pos → Left → Outcome
 equation_to sig (wrong_at i) = wrong_kind i
 equation_to sig (all_are ts) = equation_of sig ts
 
-abbrev pub equated : Signature → List Value → Pos → ℕ → Fresh → Outcome
+abbrev pub equated : Signature → List Value → Pos → Left → Outcome
 equated sig vs = if length vs == 2 then equation_to sig (kinds_of term_of 1 vs) else miscounted 2 vs
 
 -- ---- a connective: its parts are terms and sentences, and each term is made an atom first, from the left
@@ -105,41 +105,42 @@ abbrev pub connective_of : Signature → Conn → Built (List Sent) → Built Se
 connective_of sig c (refuses why) = refuses why
 connective_of sig c (builds ps) = made_connective sig c ps
 
-abbrev pub connective_to : Signature → Conn → Kinds Part → Pos → ℕ → Fresh → Outcome
+abbrev pub connective_to : Signature → Conn → Kinds Part → Pos → Left → Outcome
 connective_to sig c (wrong_at i) = wrong_kind i
 connective_to sig c (all_are xs) = gives_sentence (connective_of sig c (sentences_made sig xs))
 
-abbrev pub connective_applied : Signature → Conn → List Value → Pos → ℕ → Fresh → Outcome
+abbrev pub connective_applied : Signature → Conn → List Value → Pos → Left → Outcome
 connective_applied sig c vs = if takes c (length vs) then connective_to sig c (kinds_of part_of 1 vs) else miscounted (wanted c) vs
 
 -- ---- any head
-abbrev pub not_applicable : Pos → ℕ → Fresh → Outcome
+abbrev pub not_applicable : Pos → Left → Outcome
 not_applicable at = fails at (refusal NotApplicable [])
 
 -- a symbol that isn't declared is `=`
-abbrev pub symbol_or_equation : Signature → Option Symbol → List Value → Pos → ℕ → Fresh → Outcome
+abbrev pub symbol_or_equation : Signature → Option Symbol → List Value → Pos → Left → Outcome
 symbol_or_equation sig (Some d) vs = symbol_applied sig d vs
 symbol_or_equation sig None vs = equated sig vs
 
 -- a term or a sentence with no arguments is itself
-abbrev pub itself : Value → List Value → Pos → ℕ → Fresh → Outcome
+abbrev pub itself : Value → List Value → Pos → Left → Outcome
 itself v [] at = gives v
 itself v (w ∷ ws) at = not_applicable at
 
-abbrev pub applied : Context → Value → List Value → Pos → ℕ → Fresh → Outcome
-applied c (a_symbol f) vs = symbol_or_equation c.signature (symbol_of c.signature f) vs
-applied c (a_connective k) vs = connective_applied c.signature k vs
-applied c (a_term t r) vs = itself (a_term t r) vs
-applied c (a_sentence p) vs = itself (a_sentence p) vs
-applied c (a_quantifier q) vs = λ at. fails at (refusal NotBuilt [])
-applied c a_back vs = not_applicable
-applied c (a_method n) vs = not_applicable
+-- what evaluates a body, and the environment, are there for procedures
+abbrev pub applied : Context → Evaluator → Environment → Value → List Value → Pos → Left → Outcome
+applied c rec env (a_symbol f) vs = symbol_or_equation c.theory.signature (symbol_of c.theory.signature f) vs
+applied c rec env (a_connective k) vs = connective_applied c.theory.signature k vs
+applied c rec env (a_term t r) vs = itself (a_term t r) vs
+applied c rec env (a_sentence p) vs = itself (a_sentence p) vs
+applied c rec env (a_quantifier q) vs = λ at. fails at (refusal NotBuilt [])
+applied c rec env a_back vs = not_applicable
+applied c rec env (a_method n) vs = not_applicable
 
 -- ---- a name: a symbol without arguments is applied to none
-abbrev pub symbol_named : Signature → Sym → Option Symbol → Pos → ℕ → Fresh → Outcome
+abbrev pub symbol_named : Signature → Sym → Option Symbol → Pos → Left → Outcome
 symbol_named sig f None at = gives (a_symbol f)
 symbol_named sig f (Some d) at = if length d.args == 0 then symbol_applied sig d [] at else gives (a_symbol f)
 
-abbrev pub value_named : Context → Value → Pos → ℕ → Fresh → Outcome
-value_named c (a_symbol f) at = symbol_named c.signature f (symbol_of c.signature f) at
+abbrev pub value_named : Context → Value → Pos → Left → Outcome
+value_named c (a_symbol f) at = symbol_named c.theory.signature f (symbol_of c.theory.signature f) at
 value_named c v at = gives v

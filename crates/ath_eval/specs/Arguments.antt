@@ -10,7 +10,8 @@ use Rattle.ath_trees.specs.Measure.{IsSmall}
 use Rattle.ath_trees.specs.Under.{has_no_binder}
 use Rattle.ath_env.specs.declared.value.Value as value
 use Rattle.ath_env.specs.declared.value.Value.TheVariants as code
-use Rattle.ath_env.specs.Values.{Value, a_term, a_sentence, a_symbol, a_connective, a_quantifier, a_back, a_method, IsIn, value_at, IsValue}
+use Rattle.ath_env.specs.Values.{Value, a_term, a_sentence, a_symbol, a_connective, a_quantifier, a_back, a_method}
+use Rattle.ath_env.specs.Stands.{IsIn, value_at, IsValue}
 use Rattle.ath_eval.specs.declared.kinds.Part.{Part as Piece}
 use Rattle.ath_eval.specs.declared.kinds.Part.TheVariants as piece
 use Rattle.ath_eval.specs.declared.kinds.Parts.{Parts}

@@ -9,4 +9,5 @@ pub mod Methods
 pub mod Outcomes
 pub mod Room
 pub mod Settings
+pub mod Stands
 pub mod World

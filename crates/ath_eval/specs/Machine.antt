@@ -21,17 +21,30 @@ use Rattle.ath_eval.specs.declared.frame.State.TheVariants.{Enter, Done}
 use Rattle.ath_eval.specs.declared.world.Outcome as code
 use Rattle.ath_eval.specs.declared.world.Outcome.TheVariants as ends
 use Rattle.ath_eval.specs.Arguments.{IsArgument, AreArguments}
-use Rattle.ath_eval.specs.Outcomes.{Context, Outcome, and_then, each}
+use Rattle.ath_eval.specs.Outcomes.{Context, Environment, Left, left_of, Outcome, and_then, each}
 use Rattle.ath_eval.specs.Applying.{applied}
 use Rattle.ath_eval.specs.Methods.{called}
-use Rattle.ath_eval.specs.Evaluation.{evaluated, form, place, unbuilt, ascribed}
+use Rattle.ath_eval.specs.Evaluation.{evaluated, form, unbuilt, ascribed}
+use Rattle.ath_syntax.specs.Places.{place}
 use Rattle.ath_eval.specs.World.{IsOutcome}
 
+-- what an evaluation reads at a place
+pub record Scope : Type 0 where
+  pub context : Context
+  pub environment : Environment
+
+abbrev pub evaluates : Scope → ℕ → Phrase → Left → Outcome
+evaluates c levels = evaluated c.context levels c.environment
+
+-- of a phrase whose step is taken
+abbrev pub forms : Scope → ℕ → Phrase → Left → Outcome
+forms c levels = form c.context (evaluated c.context levels) c.environment
+
 -- what becomes of the head and the arguments of an application or a call
-abbrev pub acts : Context → Phrase → Value → List Value → ℕ → Fresh → Outcome
-acts c (apply_at p f xs) v vs = applied c v vs p
-acts c (call_at p f xs) v vs = called c v vs p
-acts c x v vs = unbuilt (place x)
+abbrev pub acts : Scope → ℕ → Phrase → Value → List Value → Left → Outcome
+acts c levels (apply_at p f xs) v vs = applied c.context (evaluated c.context levels) c.environment v vs p
+acts c levels (call_at p f xs) v vs = called c.context (evaluated c.context levels) c.environment v vs p
+acts c levels x v vs = unbuilt (place x)
 
 abbrev pub arguments : Phrase → Phrases
 arguments (apply_at p f xs) = xs
@@ -52,24 +65,24 @@ abbrev pub arguments_at : Nodes → PhraseId → List PhraseId
 arguments_at nodes i = node_arguments (slice_get nodes.phrases i.0)
 
 -- the frame makes this outcome of its part's outcome
-abbrev pub Fills : Context → Nodes → Trees → Frame → Outcome → Outcome → Type 0
+abbrev pub Fills : Scope → Nodes → Trees → Frame → Outcome → Outcome → Type 0
 Fills c nodes s (Head i levels) r out =
-    (x : Phrase) × IsPhrase nodes i x × (out ≡ and_then r (λ v left made. each (evaluated c levels) [] (arguments x) (acts c x v) left made))
+    (x : Phrase) × IsPhrase nodes i x × (out ≡ and_then r (λ v. each (evaluates c levels) [] (arguments x) (acts c levels x v)))
 Fills c nodes s (Argument i h done levels) r out =
     (x : Phrase) × (v : Value) × (vs : List Value) × (rest : Phrases) × IsPhrase nodes i x × IsArgument s h v × AreArguments s done vs × (length done < most) × ArePhrases nodes (drop (length done + 1) (arguments_at nodes i)) rest
-    × (out ≡ and_then r (λ w left made. each (evaluated c levels) (vs ++ w ∷ []) rest (acts c x v) left made))
+    × (out ≡ and_then r (λ w. each (evaluates c levels) (vs ++ w ∷ []) rest (acts c levels x v)))
 Fills c nodes s (Ascription i) r out =
-    (p : Pos) × (x : Phrase) × (text : SortText) × IsPhrase nodes i (ascribe_at p x text) × (out ≡ and_then r (λ v left made. ascribed c text v p left made))
+    (p : Pos) × (x : Phrase) × (text : SortText) × IsPhrase nodes i (ascribe_at p x text) × (out ≡ and_then r (λ v. ascribed c.context text v p))
 
 -- the frames, of which the last is resumed first, make this outcome
-abbrev pub Resumes : Context → Nodes → Trees → List Frame → Outcome → Outcome → Type 0
+abbrev pub Resumes : Scope → Nodes → Trees → List Frame → Outcome → Outcome → Type 0
 Resumes c nodes s [] r out = out ≡ r
 Resumes c nodes s (f ∷ fs) r out = (mid : Outcome) × Resumes c nodes s fs r mid × Fills c nodes s f mid out
 
 -- from this state, with this fuel, the machine is to give this outcome
-abbrev pub Means : Context → Nodes → Trees → ℕ → Fresh → State → List Frame → Outcome → Type 0
+abbrev pub Means : Scope → Nodes → Trees → ℕ → Fresh → State → List Frame → Outcome → Type 0
 Means c nodes s fuel fresh (Enter i levels) fs out =
-    (x : Phrase) × IsPhrase nodes i x × Resumes c nodes s fs (evaluated c levels x fuel fresh) out
+    (x : Phrase) × IsPhrase nodes i x × Resumes c nodes s fs (evaluates c levels x (left_of fuel fresh)) out
 Means c nodes s fuel fresh (Done o) fs out =
     (r : Outcome) × IsOutcome s fuel fresh o r × Resumes c nodes s fs r out
 
@@ -85,23 +98,28 @@ abbrev pub weight : ℕ → State → List Frame → ℕ
 weight fuel st fs = 4 * fuel + 2 * length fs + rank st
 
 -- a stretch of the machine's work, which keeps the outcomes that were to come
-pub record Steps (c : Context) (nodes : Nodes) (old : Trees) (before : Outcome → Type 0) (bound : ℕ) (new : Trees) (fuel : ℕ) (fresh : Fresh) (st : State) (fs : List Frame) : Type 0 where
+pub record Steps (c : Scope) (nodes : Nodes) (old : Trees) (before : Outcome → Type 0) (bound : ℕ) (new : Trees) (fuel : ℕ) (fresh : Fresh) (st : State) (fs : List Frame) : Type 0 where
   pub grows : Grows old new
   pub means : (out : Outcome) → before out → Means c nodes new fuel fresh st fs out
   pub falls : weight fuel st fs < bound
 
 -- the phrase's step is taken, and its parts have this many levels
-abbrev pub FormMeans : Context → Nodes → Trees → ℕ → Fresh → PhraseId → ℕ → List Frame → Outcome → Type 0
+abbrev pub FormMeans : Scope → Nodes → Trees → ℕ → Fresh → PhraseId → ℕ → List Frame → Outcome → Type 0
 FormMeans c nodes s fuel fresh i levels fs out =
-    (x : Phrase) × IsPhrase nodes i x × Resumes c nodes s fs (form c (evaluated c levels) x fuel fresh) out
+    (x : Phrase) × IsPhrase nodes i x × Resumes c nodes s fs (forms c levels x (left_of fuel fresh)) out
+
+-- the head is known, and all the arguments
+abbrev pub ActMeans : Scope → Nodes → Trees → ℕ → Fresh → PhraseId → value.Value → List value.Value → ℕ → List Frame → Outcome → Type 0
+ActMeans c nodes s fuel fresh i h args levels fs out =
+    (x : Phrase) × (v : Value) × (vs : List Value) × IsPhrase nodes i x × IsArgument s h v × AreArguments s args vs × Resumes c nodes s fs (acts c levels x v vs (left_of fuel fresh)) out
 
 -- the head is known, and these arguments
-abbrev pub ArgumentsMean : Context → Nodes → Trees → ℕ → Fresh → PhraseId → value.Value → List value.Value → ℕ → List Frame → Outcome → Type 0
+abbrev pub ArgumentsMean : Scope → Nodes → Trees → ℕ → Fresh → PhraseId → value.Value → List value.Value → ℕ → List Frame → Outcome → Type 0
 ArgumentsMean c nodes s fuel fresh i h done levels fs out =
     (x : Phrase) × (v : Value) × (vs : List Value) × (rest : Phrases) × IsPhrase nodes i x × IsArgument s h v × AreArguments s done vs × (length done ≤ most) × ArePhrases nodes (drop (length done) (arguments_at nodes i)) rest
-    × Resumes c nodes s fs (each (evaluated c levels) vs rest (acts c x v) fuel fresh) out
+    × Resumes c nodes s fs (each (evaluates c levels) vs rest (acts c levels x v) (left_of fuel fresh)) out
 
 -- a frame has been taken off, and gets an outcome
-abbrev pub FrameMeans : Context → Nodes → Trees → ℕ → Fresh → code.Outcome → Frame → List Frame → Outcome → Type 0
+abbrev pub FrameMeans : Scope → Nodes → Trees → ℕ → Fresh → code.Outcome → Frame → List Frame → Outcome → Type 0
 FrameMeans c nodes s fuel fresh o f fs out =
     (r : Outcome) × (mid : Outcome) × IsOutcome s fuel fresh o r × Fills c nodes s f r mid × Resumes c nodes s fs mid out

@@ -1,46 +1,69 @@
 -- How an evaluation ends, and how one goes on after a part.
-use Rattle.std.specs.Prelude.{ℕ, List, [], ◌∷◌, ◌++◌}
-use Rattle.ath_sorts.specs.Signature.{Signature}
+use Rattle.std.specs.Prelude.{ℕ, zero, suc, List, [], ◌∷◌, ◌++◌}
 use Rattle.ath_syntax.specs.declared.place.Pos.{Pos}
 use Rattle.ath_syntax.specs.Tree.{Phrase, Phrases, no_phrases, more_phrases}
 use Rattle.ath_trees.specs.Tree.{Sent}
 use Rattle.ath_terms.specs.declared.fresh.Fresh.{Fresh}
-use Rattle.ath_env.specs.Values.{Value, a_sentence}
+use Rattle.ath_calculus.specs.Theory.{Theory}
+use Rattle.ath_base.specs.Base.{Entry}
+use Rattle.ath_env.specs.Values.{Value, value_of}
 use Rattle.ath_print.specs.declared.fault.FaultKind.{FaultKind}
 use Rattle.ath_print.specs.Events.{Argument, Refusal}
 
--- what an evaluation reads: the table of names, what is declared, and the assumption base, oldest first
+-- what all parts of an evaluation read: the table of names, and what is declared
 pub record Context : Type 0 where
   pub names : List (List ℕ)
-  pub signature : Signature
-  pub base : List Sent
+  pub theory : Theory
 
--- Each with the fuel and the counters of fresh names that are left. Where it is exhausted no fuel is.
+-- what local forms bind; there are none yet
+pub data Bindings : Type 0 where
+  no_bindings : Bindings
+
+-- what a part reads of its own: what is bound where it stands, and its assumption base, the newest entry first
+pub record Environment : Type 0 where
+  pub bindings : Bindings
+  pub base : List Entry
+
+-- what is left: the steps, and the counters of fresh names
+pub record Left : Type 0 where
+  pub fuel : ℕ
+  pub fresh : Fresh
+
+-- Each with what is left. Where it is exhausted no fuel is.
 pub data Outcome : Type 0 where
   -- the value of an expression
-  gives : Value → ℕ → Fresh → Outcome
+  gives : Value → Left → Outcome
   -- the conclusion of a deduction
-  concludes : Sent → ℕ → Fresh → Outcome
+  concludes : Sent → Left → Outcome
   -- an error, at the phrase that refuses
-  fails : Pos → Refusal → ℕ → Fresh → Outcome
+  fails : Pos → Refusal → Left → Outcome
   -- no fuel is left for the phrase at this place
   exhausts : Pos → Fresh → Outcome
 
 abbrev pub refusal : FaultKind → List Argument → Refusal
 refusal k named = record { kind = k; args = named }
 
--- what evaluates a part, with this fuel and these counters
+-- what evaluates a part, in its environment
 abbrev pub Evaluator : Type 0
-Evaluator = Phrase → ℕ → Fresh → Outcome
+Evaluator = Environment → Phrase → Left → Outcome
 
--- goes on with the value of a part; the first error or exhaustion is the outcome
-abbrev pub and_then : Outcome → (Value → ℕ → Fresh → Outcome) → Outcome
-and_then (gives v fuel fresh) go = go v fuel fresh
-and_then (concludes p fuel fresh) go = go (a_sentence p) fuel fresh
-and_then (fails at why fuel fresh) go = fails at why fuel fresh
+abbrev pub left_of : ℕ → Fresh → Left
+left_of steps made = record { fuel = steps; fresh = made }
+
+-- takes a step of the fuel and goes on; where none is left it is exhausted at this place
+abbrev pub spending : ℕ → Fresh → Pos → (Left → Outcome) → Outcome
+spending zero fresh at go = exhausts at fresh
+spending (suc fuel) fresh at go = go (left_of fuel fresh)
+
+-- goes on with the value of a part, which for a conclusion is that of its sentence; the first error or exhaustion is the
+-- outcome
+abbrev pub and_then : Outcome → (Value → Left → Outcome) → Outcome
+and_then (gives v left) go = go v left
+and_then (concludes p left) go = go (value_of p) left
+and_then (fails at why left) go = fails at why left
 and_then (exhausts at fresh) go = exhausts at fresh
 
 -- the values of the parts from left to right, after those that are done
-abbrev pub each : Evaluator → List Value → Phrases → (List Value → ℕ → Fresh → Outcome) → ℕ → Fresh → Outcome
-each rec done no_phrases go fuel fresh = go done fuel fresh
-each rec done (more_phrases x xs) go fuel fresh = and_then (rec x fuel fresh) (λ v left made. each rec (done ++ v ∷ []) xs go left made)
+abbrev pub each : (Phrase → Left → Outcome) → List Value → Phrases → (List Value → Left → Outcome) → Left → Outcome
+each rec done no_phrases go left = go done left
+each rec done (more_phrases x xs) go left = and_then (rec x left) (λ v. each rec (done ++ v ∷ []) xs go)

@@ -1,33 +1,47 @@
 -- What the world of an evaluation stands for, and its outcomes.
-use Rattle.std.specs.Prelude.{◌≡◌, ℕ}
-use Rattle.ath_terms.specs.Trees.{Trees, IsSent, Grows}
+use Rattle.std.specs.Prelude.{◌≡◌, ℕ, List}
+use Rattle.ath_trees.specs.Tree.{Sent}
+use Rattle.ath_terms.specs.Trees.{Trees, sent_at, IsSent, Grows}
 use Rattle.ath_terms.specs.declared.fresh.Fresh.{Fresh}
-use Rattle.ath_env.specs.Values.{IsValue, a_sentence}
+use Rattle.ath_calculus.specs.Derives.{Derives}
+use Rattle.ath_calculus.specs.Theory.{Theory, theory_of}
+use Rattle.ath_env.specs.Values.{a_sentence}
+use Rattle.ath_env.specs.Stands.{IsValue}
 use Rattle.ath_print.specs.Stands.{IsFault}
 use Rattle.ath_eval.specs.declared.world.World.{World}
 use Rattle.ath_eval.specs.declared.world.Outcome as code
 use Rattle.ath_eval.specs.declared.world.Outcome.TheVariants as ends
 use Rattle.ath_eval.specs.Arguments.{IsSmallValue}
-use Rattle.ath_eval.specs.Base.{sents_of}
-use Rattle.ath_eval.specs.Outcomes.{Context, Outcome, gives, concludes, fails, exhausts}
+use Rattle.ath_base.specs.Stands.{entries_of}
+use Rattle.ath_eval.specs.Outcomes.{Context, Environment, no_bindings, Left, left_of, Outcome, gives, concludes, fails, exhausts}
 
 abbrev pub context_of : World → Context
-context_of w = record { names = w.names; signature = w.sig; base = sents_of w.store w.base.items }
+context_of w = record { names = w.names; theory = theory_of w.sig }
+
+abbrev pub environment_of : World → Environment
+environment_of w = record { bindings = no_bindings; base = entries_of w.store w.base.entries.items }
 
 -- the outcome, where this fuel and these counters are left, is this one; what it gives is within the limits
 abbrev pub IsOutcome : Trees → ℕ → Fresh → code.Outcome → Outcome → Type 0
-IsOutcome s fuel fresh (ends.Value v) (gives x left made) = IsValue s v x × IsSmallValue x × (fuel ≡ left) × (fresh ≡ made)
-IsOutcome s fuel fresh (ends.Theorem p) (concludes x left made) = IsSent s p.0 x × IsSmallValue (a_sentence x) × (fuel ≡ left) × (fresh ≡ made)
-IsOutcome s fuel fresh (ends.Error at why) (fails place x left made) = (at ≡ place) × IsFault s why x × (fuel ≡ left) × (fresh ≡ made)
+IsOutcome s fuel fresh (ends.Value v) (gives x left) = IsValue s v x × IsSmallValue x × (fuel ≡ left.fuel) × (fresh ≡ left.fresh)
+IsOutcome s fuel fresh (ends.Theorem p) (concludes x left) = IsSent s p.0 x × IsSmallValue (a_sentence x) × (fuel ≡ left.fuel) × (fresh ≡ left.fresh)
+IsOutcome s fuel fresh (ends.Error at why) (fails place x left) = (at ≡ place) × IsFault s why x × (fuel ≡ left.fuel) × (fresh ≡ left.fresh)
 IsOutcome s fuel fresh (ends.Exhausted at) (exhausts place made) = (at ≡ place) × (fuel ≡ 0) × (fresh ≡ made)
 IsOutcome s fuel fresh o x = ⊥
 
+-- a theorem is derivable from the asserted sentences under the hypotheses
+abbrev pub IsDerivable : Theory → List Sent → List Sent → Trees → code.Outcome → Type 0
+IsDerivable th asserted hyps s (ends.Theorem p) = Derives th asserted hyps (sent_at s.sents p.0)
+IsDerivable th asserted hyps s (ends.Value v) = Unit {0}
+IsDerivable th asserted hyps s (ends.Error at why) = Unit {0}
+IsDerivable th asserted hyps s (ends.Exhausted at) = Unit {0}
+
 -- The code's outcome is this one, whatever fuel is left; `made` are the counters after it, where `fresh` are those before.
-abbrev pub IsAnswer : Trees → Fresh → Fresh → code.Outcome → (ℕ → Fresh → Outcome) → Type 0
-IsAnswer s fresh made o answer = (fuel : ℕ) → IsOutcome s fuel made o (answer fuel fresh)
+abbrev pub IsAnswer : Trees → Fresh → Fresh → code.Outcome → (Left → Outcome) → Type 0
+IsAnswer s fresh made o answer = (fuel : ℕ) → IsOutcome s fuel made o (answer (left_of fuel fresh))
 
 -- the same, where the counters stay as they are
-abbrev pub IsSteady : Trees → code.Outcome → (ℕ → Fresh → Outcome) → Type 0
+abbrev pub IsSteady : Trees → code.Outcome → (Left → Outcome) → Type 0
 IsSteady s o answer = (fresh : Fresh) → IsAnswer s fresh fresh o answer
 
 -- the world after an evaluation: its store has grown, its fuel and counters have moved, and all else is as it was
@@ -35,5 +49,5 @@ pub record Evaluates (old new : World) : Type 0 where
   pub grows : Grows old.store new.store
   pub names : new.names ≡ old.names
   pub signature : new.sig ≡ old.sig
-  pub base : new.base.items ≡ old.base.items
+  pub base : new.base.entries.items ≡ old.base.entries.items
   pub phrases : new.phrases ≡ old.phrases

@@ -1,14 +1,15 @@
 // Applications of connectives.
 
-ghost use Rattle.std.specs.Prelude.{◌≡◌, ◌≤◌, ◌<◌, IfOk, IfErr, MatchResult, map, length, true};
+ghost use Rattle.std.specs.Prelude.{◌≡◌, ◌≤◌, ◌<◌, IfOk, map, length, true};
 ghost use Rattle.std.specs.List.{All};
 ghost use Rattle.ath_sorts.specs.Signature.{Signature as Declared};
+ghost use Rattle.ath_syntax.specs.Fits.{most};
 ghost use Rattle.ath_terms.specs.Trees.{Grows};
 ghost use Rattle.ath_terms.specs.SortsIn.{IsSortedIn};
 ghost use Rattle.ath_terms.specs.Construction.{takes, wanted};
 ghost use Rattle.ath_eval.specs.Applying as applying;
 ghost use Rattle.ath_eval.specs.Arguments.{IsGood, IsGoodPiece, piece_tree, values_at};
-ghost use Rattle.ath_eval.specs.Building.{IsSentBuilt, IsRefused, AreSentsIn};
+ghost use Rattle.ath_eval.specs.Stands.{IsSentBuilt, AreSentsBuilt};
 ghost use Rattle.ath_eval.specs.World.{IsSteady};
 
 use crate::building::sentence_made;
@@ -67,7 +68,7 @@ fn sentences(alloc: Global, store: &mut Store, parts: &[Part]) -> Result<Vec<Sen
     requires parts { All (IsGoodPiece store.old) parts.now }
     ensures grows { Grows store.old store.new }
     ensures sorted { (sig : Declared) → IsSortedIn sig store.old → IsSortedIn sig store.new }
-    ensures built { MatchResult result (λ ids. (sig : Declared) → IsSortedIn sig store.old → AreSentsIn store.new (applying.sentences_made sig (map (piece_tree store.old) parts.now)) ids.items) (λ e. (sig : Declared) → IsSortedIn sig store.old → IsRefused store.new (applying.sentences_made sig (map (piece_tree store.old) parts.now)) e) }
+    ensures built { (sig : Declared) → IsSortedIn sig store.old → AreSentsBuilt store.new (applying.sentences_made sig (map (piece_tree store.old) parts.now)) result }
     ensures many { IfOk result (λ ids. length ids.items ≡ length parts.now) }
 {
     let mut ids: Vec<SentId> = Vec::new(alloc);
@@ -94,7 +95,7 @@ fn connect(
 ) -> Result<Outcome, AllocError>
     requires sorted { (sig : Declared) × IsSortedIn sig store.old }
     requires many { takes conn (length parts.now) ≡ true }
-    requires few { length parts.now ≤ 4194304 }
+    requires few { length parts.now ≤ most }
     requires parts { All (IsGoodPiece store.old) parts.now }
     ensures grows { Grows store.old store.new }
     ensures sorted { (sig : Declared) → IsSortedIn sig store.old → IsSortedIn sig store.new }
@@ -123,7 +124,7 @@ fn connect_values(
 ) -> Result<Outcome, AllocError>
     requires sorted { (sig : Declared) × IsSortedIn sig store.old }
     requires many { takes conn (length args.now) ≡ true }
-    requires few { length args.now ≤ 4194304 }
+    requires few { length args.now ≤ most }
     requires arguments { All (IsGood store.old) args.now }
     ensures grows { Grows store.old store.new }
     ensures sorted { (sig : Declared) → IsSortedIn sig store.old → IsSortedIn sig store.new }
@@ -150,7 +151,7 @@ pub(crate) fn apply_connective(
     at: Pos,
 ) -> Result<Outcome, AllocError>
     requires sorted { (sig : Declared) × IsSortedIn sig store.old }
-    requires few { length args.now ≤ 4194304 }
+    requires few { length args.now ≤ most }
     requires arguments { All (IsGood store.old) args.now }
     ensures grows { Grows store.old store.new }
     ensures sorted { (sig : Declared) → IsSortedIn sig store.old → IsSortedIn sig store.new }

@@ -1,9 +1,9 @@
 // Laws of evaluation.
 
-ghost use Rattle.ath_eval.specs.Laws.{ConclusionsFollow, ValuesAreSorted, MoreFuel, FuelNeverRises, StepsTakeFew, SignaturesGrow};
+ghost use Rattle.ath_eval.specs.Laws.{ConclusionsFollow, ValuesAreSorted, MoreFuel, FuelNeverRises, StepsTakeFew, TheoriesGrow};
 
-/// A conclusion is derivable, under no hypotheses, from the asserted sentences, where each sentence of the assumption base
-/// is.
+/// A conclusion is derivable from the asserted sentences under the open hypotheses, where each sentence of the assumption
+/// base is.
 pub fn conclusions_follow()
     ensures { ConclusionsFollow }
 {}
@@ -24,13 +24,13 @@ pub fn fuel_never_rises()
     ensures { FuelNeverRises }
 {}
 
-/// Where no symbol has more than 64 parameters, each step takes at most 64 sort variables. So the room for them that is there
-/// at first is there after each evaluation.
+/// Where no symbol has more than 64 parameters, each step takes at most 4,194,304 sort variables, and as many indices. So the
+/// room for them that is there at first is there after each evaluation.
 pub fn steps_take_few()
     ensures { StepsTakeFew }
 {}
 
-/// What is well-sorted in a signature, or derivable in it, is so in each one that keeps what it has.
-pub fn signatures_grow()
-    ensures { SignaturesGrow }
+/// What is well-sorted in a theory, or derivable in it, is so in each one that has what it has.
+pub fn theories_grow()
+    ensures { TheoriesGrow }
 {}

@@ -1,22 +1,27 @@
 // The machine: what waits for a part's outcome stands on a stack.
 
-ghost use Rattle.std.specs.Prelude.{◌≡◌, ◌<◌, ◌≤◌, ◌+◌, ◌*◌, ◌^◌, IfOk, length};
+ghost use Rattle.std.specs.Prelude.{◌≡◌, ◌≤◌, ◌+◌, List, IfOk, length};
 ghost use Rattle.ath_syntax.specs.Stands.{IsPhrase};
 ghost use Rattle.ath_syntax.specs.Tree.{Phrase as PhraseTree, ascribe_at};
 ghost use Rattle.ath_syntax.specs.declared.node.SortText.{SortText as Text};
 ghost use Rattle.ath_syntax.specs.declared.place.Pos.{Pos as Place};
-ghost use Rattle.ath_env.specs.Values.{value_at};
+ghost use Rattle.ath_env.specs.Stands.{value_at};
 ghost use Rattle.ath_eval.specs.Arguments.{IsGood};
 ghost use Rattle.ath_eval.specs.Evaluation as evaluation;
-ghost use Rattle.ath_eval.specs.Outcomes.{Context};
+ghost use Rattle.ath_eval.specs.Outcomes.{Context, left_of};
 ghost use Rattle.ath_syntax.specs.Fits.{most};
 ghost use Rattle.ath_terms.specs.SortsIn.{IsSortedIn};
 ghost use Rattle.ath_terms.specs.Trees.{Grows};
+ghost use Rattle.ath_trees.specs.Tree.{Sent};
+ghost use Rattle.ath_calculus.specs.Derives.{AreDerivable};
+ghost use Rattle.ath_calculus.specs.Theory.{theory_of};
+ghost use Rattle.ath_base.specs.Base.{sentences};
 ghost use Rattle.ath_eval.specs.Base.{AreIn};
-ghost use Rattle.ath_eval.specs.Evaluation.{evaluated, outcome_of};
-ghost use Rattle.ath_eval.specs.Room.{IsRoomy, IsNarrow};
+ghost use Rattle.ath_eval.specs.Evaluation.{outcome_of};
+ghost use Rattle.ath_eval.specs.Machine.{evaluates};
+ghost use Rattle.ath_eval.specs.Room.{charged, IsBelow, IsNarrow, IsRoomy};
 ghost use Rattle.ath_eval.specs.Settings.{reading, Enters, EntersForm, TakesArguments, IsTaking, ResumesFrame, IsResumed};
-ghost use Rattle.ath_eval.specs.World.{IsOutcome, IsSteady, context_of, Evaluates};
+ghost use Rattle.ath_eval.specs.World.{IsOutcome, IsDerivable, IsSteady, context_of, environment_of, Evaluates};
 ghost use Rattle.ath_eval.specs.declared.world.Outcome.TheVariants as ends;
 
 use crate::frame::{Frame, State};
@@ -25,7 +30,7 @@ use crate::parts::{act, argument};
 use crate::refusals::bare;
 use crate::setting::Setting;
 use crate::world::{Outcome, World};
-use ath_env::Value;
+use ath_env::{Value, value_of};
 use ath_print::FaultKind;
 use ath_syntax::{Form, PhraseId};
 use ath_terms::{Fresh, Store};
@@ -49,10 +54,10 @@ fn enter(
     requires phrase { (x : PhraseTree) × IsPhrase set.now.phrases.now phrase x }
     requires sorted { IsSortedIn set.now.sig.now store.old }
     requires narrow { IsNarrow set.now.sig.now }
-    requires room { fresh.old.sort + 64 * (fuel.old + length stack.old.items) ≤ 64000000001 }
+    requires room { IsRoomy (fuel.old + length stack.old.items) fresh.old }
     ensures grows { Grows store.old store.new }
     ensures sorted { IsSortedIn set.now.sig.now store.new }
-    ensures room { fresh.new.sort + 64 * (fuel.new + length stack.new.items) ≤ 64000000001 }
+    ensures room { IsRoomy (fuel.new + length stack.new.items) fresh.new }
     ensures steps { IfOk result (λ st. Enters set.now store.old fuel.old fresh.old phrase levels stack.old.items store.new fuel.new fresh.new st stack.new.items) }
 {
     let place = set.phrases.node(phrase).pos;
@@ -80,10 +85,10 @@ fn enter_form(
     requires phrase { (x : PhraseTree) × IsPhrase set.now.phrases.now phrase x }
     requires sorted { IsSortedIn set.now.sig.now store.old }
     requires narrow { IsNarrow set.now.sig.now }
-    requires counter { fresh.old.sort < 2 ^ 62 }
+    requires counters { IsRoomy 0 fresh.old }
     ensures grows { Grows store.old store.new }
     ensures sorted { IsSortedIn set.now.sig.now store.new }
-    ensures room { fresh.new.sort + 64 * length stack.new.items ≤ fresh.old.sort + 64 * (length stack.old.items + 1) }
+    ensures room { IsBelow (charged (length stack.new.items) fresh.new) (charged (length stack.old.items + 1) fresh.old) }
     ensures steps { IfOk result (λ st. EntersForm set.now store.old fresh.old phrase levels stack.old.items store.new fresh.new st stack.new.items) }
 {
     let node = set.phrases.node(phrase);
@@ -124,21 +129,21 @@ fn take_arguments(
     done: Items<Value>,
     levels: u32,
 ) -> Result<State, AllocError>
-    requires base { AreIn store.old set.now.base.now }
+    requires base { AreIn store.old set.now.base.now.entries.items }
     requires few { length done ≤ most }
     requires known { IsTaking set.now store.old fresh.old phrase head done levels stack.old.items }
     requires sorted { IsSortedIn set.now.sig.now store.old }
     requires narrow { IsNarrow set.now.sig.now }
-    requires counter { fresh.old.sort < 2 ^ 62 }
+    requires counters { IsRoomy 0 fresh.old }
     ensures grows { Grows store.old store.new }
     ensures sorted { IsSortedIn set.now.sig.now store.new }
-    ensures room { fresh.new.sort + 64 * length stack.new.items ≤ fresh.old.sort + 64 * (length stack.old.items + 1) }
+    ensures room { IsBelow (charged (length stack.new.items) fresh.new) (charged (length stack.old.items + 1) fresh.old) }
     ensures steps { IfOk result (λ st. TakesArguments set.now store.old fresh.old phrase head done levels stack.old.items store.new fresh.new st stack.new.items) }
 {
     match argument(set.phrases, phrase, done.len()) {
         None => {
-            let outcome = act(alloc, set, store, fresh, phrase, head, done.as_slice())?;
-            Ok(State::Done(outcome))
+            let state = act(alloc, set, store, fresh, phrase, head, done.as_slice())?;
+            Ok(state)
         }
         Some(next) => {
             stack.push(Frame::Argument(phrase, head, done, levels))?;
@@ -160,7 +165,7 @@ fn ascribed(
     requires value { IsGood store.old value }
     ensures grows { Grows store.old store.new }
     ensures sorted { IsSortedIn set.now.sig.now store.new }
-    ensures outcome { IfOk result (λ o. (c : Context) (p : Place) (x : PhraseTree) (text : Text) → c.signature ≡ set.now.sig.now → IsPhrase set.now.phrases.now phrase (ascribe_at p x text) → IsSteady store.new o (evaluation.ascribed c text (value_at store.old value) p)) }
+    ensures outcome { IfOk result (λ o. (c : Context) (p : Place) (x : PhraseTree) (text : Text) → c.theory.signature ≡ set.now.sig.now → IsPhrase set.now.phrases.now phrase (ascribe_at p x text) → IsSteady store.new o (evaluation.ascribed c text (value_at store.old value) p)) }
 {
     let node = set.phrases.node(phrase);
     match &node.form {
@@ -182,14 +187,14 @@ fn resume_value(
     frame: Frame,
     value: Value,
 ) -> Result<State, AllocError>
-    requires base { AreIn store.old set.now.base.now }
+    requires base { AreIn store.old set.now.base.now.entries.items }
     requires known { IsResumed set.now store.old fresh.old (ends.Value value) frame stack.old.items }
     requires sorted { IsSortedIn set.now.sig.now store.old }
     requires narrow { IsNarrow set.now.sig.now }
-    requires counter { fresh.old.sort < 2 ^ 62 }
+    requires counters { IsRoomy 0 fresh.old }
     ensures grows { Grows store.old store.new }
     ensures sorted { IsSortedIn set.now.sig.now store.new }
-    ensures room { fresh.new.sort + 64 * length stack.new.items ≤ fresh.old.sort + 64 * (length stack.old.items + 1) }
+    ensures room { IsBelow (charged (length stack.new.items) fresh.new) (charged (length stack.old.items + 1) fresh.old) }
     ensures steps { IfOk result (λ st. ResumesFrame set.now store.old fresh.old (ends.Value value) frame stack.old.items store.new fresh.new st stack.new.items) }
 {
     match frame {
@@ -224,14 +229,14 @@ fn resume(
     frame: Frame,
     outcome: Outcome,
 ) -> Result<State, AllocError>
-    requires base { AreIn store.old set.now.base.now }
+    requires base { AreIn store.old set.now.base.now.entries.items }
     requires known { IsResumed set.now store.old fresh.old outcome frame stack.old.items }
     requires sorted { IsSortedIn set.now.sig.now store.old }
     requires narrow { IsNarrow set.now.sig.now }
-    requires counter { fresh.old.sort < 2 ^ 62 }
+    requires counters { IsRoomy 0 fresh.old }
     ensures grows { Grows store.old store.new }
     ensures sorted { IsSortedIn set.now.sig.now store.new }
-    ensures room { fresh.new.sort + 64 * length stack.new.items ≤ fresh.old.sort + 64 * (length stack.old.items + 1) }
+    ensures room { IsBelow (charged (length stack.new.items) fresh.new) (charged (length stack.old.items + 1) fresh.old) }
     ensures steps { IfOk result (λ st. ResumesFrame set.now store.old fresh.old outcome frame stack.old.items store.new fresh.new st stack.new.items) }
 {
     match outcome {
@@ -240,7 +245,8 @@ fn resume(
             Ok(state)
         }
         Outcome::Theorem(p) => {
-            let state = resume_value(alloc, set, store, fresh, stack, frame, Value::Sent(p))?;
+            let value = value_of(store, p);
+            let state = resume_value(alloc, set, store, fresh, stack, frame, value)?;
             Ok(state)
         }
         Outcome::Error(place, fault) => Ok(State::Done(Outcome::Error(place, fault))),
@@ -258,7 +264,7 @@ fn evaluate(
     phrase: PhraseId,
     levels: u32,
 ) -> Result<Outcome, AllocError>
-    requires base { AreIn store.old set.now.base.now }
+    requires base { AreIn store.old set.now.base.now.entries.items }
     requires phrase { (x : PhraseTree) × IsPhrase set.now.phrases.now phrase x }
     requires sorted { IsSortedIn set.now.sig.now store.old }
     requires narrow { IsNarrow set.now.sig.now }
@@ -266,7 +272,7 @@ fn evaluate(
     ensures grows { Grows store.old store.new }
     ensures sorted { IsSortedIn set.now.sig.now store.new }
     ensures room { IsRoomy fuel.new fresh.new }
-    ensures outcome { IfOk result (λ o. (x : PhraseTree) → IsPhrase set.now.phrases.now phrase x → IsOutcome store.new fuel.new fresh.new o (evaluated (reading set.now store.old) levels x fuel.old fresh.old)) }
+    ensures outcome { IfOk result (λ o. (x : PhraseTree) → IsPhrase set.now.phrases.now phrase x → IsOutcome store.new fuel.new fresh.new o (evaluates (reading set.now store.old) levels x (left_of fuel.old fresh.old))) }
 {
     let mut stack: Vec<Frame> = Vec::new(alloc);
     let mut state = State::Enter(phrase, levels);
@@ -285,19 +291,20 @@ fn evaluate(
     }
 }
 
-/// The outcome of a directive's phrase.
+/// The outcome of a directive's phrase. Where each sentence of the base is derivable, so is the conclusion of a deduction.
 pub fn run(alloc: Global, w: &mut World, phrase: PhraseId) -> Result<Outcome, AllocError>
     requires phrase { (x : PhraseTree) × IsPhrase w.old.phrases phrase x }
     requires sorted { IsSortedIn w.old.sig w.old.store }
     ensures sorted { IsSortedIn w.new.sig w.new.store }
     ensures world { Evaluates w.old w.new }
-    ensures outcome { IfOk result (λ o. (x : PhraseTree) → IsPhrase w.old.phrases phrase x → IsOutcome w.new.store w.new.fuel w.new.fresh o (outcome_of (context_of w.old) x w.old.fuel w.old.fresh)) }
+    ensures outcome { IfOk result (λ o. (x : PhraseTree) → IsPhrase w.old.phrases phrase x → IsOutcome w.new.store w.new.fuel w.new.fresh o (outcome_of (context_of w.old) (environment_of w.old) x (left_of w.old.fuel w.old.fresh))) }
+    ensures follows { IfOk result (λ o. (asserted hyps : List Sent) → AreDerivable (theory_of w.old.sig) asserted hyps (sentences (environment_of w.old).base) → IsDerivable (theory_of w.old.sig) asserted hyps w.new.store o) }
 {
     let set = Setting {
         names: &w.names,
         sig: &w.sig,
         phrases: &w.phrases,
-        base: w.base.as_slice(),
+        base: &w.base,
     };
     let outcome = evaluate(
         alloc,

@@ -1,17 +1,21 @@
 // The primitive methods, argument by argument.
 
-ghost use Rattle.std.specs.Prelude.{◌≡◌, ◌<◌, Some, IfOk, length};
+ghost use Rattle.std.specs.Prelude.{◌≡◌, ◌<◌, Some, IfOk, is_some, length};
 ghost use Rattle.ath_terms.specs.Trees.{sent_at, Grows};
 ghost use Rattle.ath_sorts.specs.Signature.{Signature as Declared};
 ghost use Rattle.ath_terms.specs.SortsIn.{IsSortedIn};
-ghost use Rattle.ath_env.specs.Values.{value_at, sentence_of, a_sentence};
+ghost use Rattle.ath_env.specs.Values.{sentence_of, a_sentence};
+ghost use Rattle.ath_env.specs.Stands.{value_at};
 ghost use Rattle.ath_eval.specs.Arguments.{IsGood, IsSmallValue, AreParts};
-ghost use Rattle.ath_eval.specs.Base.{sents_of, AreIn};
+ghost use Rattle.ath_base.specs.Base.{holds};
+ghost use Rattle.ath_base.specs.Stands.{entries_of};
+ghost use Rattle.ath_eval.specs.Base.{AreIn};
 ghost use Rattle.ath_eval.specs.Methods as methods;
 ghost use Rattle.ath_eval.specs.World.{IsSteady};
 
 use crate::refusals::{missing, numbered};
 use crate::world::Outcome;
+use ath_base::Base;
 use ath_env::{Value, sentence};
 use ath_print::FaultKind;
 use ath_syntax::Pos;
@@ -20,32 +24,27 @@ use ath_terms::{SentNode, Store};
 use ath_trees::{Conn, SentId};
 use std::alloc::{AllocError, Global};
 
-/// Whether the base has a sentence.
-fn is_in_base(store: &Store, base: &[SentId], p: SentId) -> bool
-    requires base { AreIn store.now base.now }
+/// Whether the base holds a sentence.
+fn is_in_base(store: &Store, base: &Base, p: SentId) -> bool
+    requires base { AreIn store.now base.now.entries.items }
     requires sent { p.0 < length store.now.sents }
-    ensures { result ≡ methods.holds (sents_of store.now base.now) (sent_at store.now.sents p.0) }
+    ensures { result ≡ is_some (holds (entries_of store.now base.now.entries.items) (sent_at store.now.sents p.0)) }
 {
-    for q in base {
-        if is_same_sent(store, *q, p) {
-            return true;
-        }
-    }
-    false
+    base.holds(store, p).is_some()
 }
 
-/// The theorem of a sentence that the base has.
+/// The theorem of a sentence that the base holds.
 fn conclude(
     alloc: Global,
     store: &Store,
-    base: &[SentId],
+    base: &Base,
     p: SentId,
     at: Pos,
 ) -> Result<Outcome, AllocError>
-    requires base { AreIn store.now base.now }
+    requires base { AreIn store.now base.now.entries.items }
     requires sent { p.0 < length store.now.sents }
     requires small { IsSmallValue (a_sentence (sent_at store.now.sents p.0)) }
-    ensures { IfOk result (λ o. IsSteady store.now o (methods.claim (sents_of store.now base.now) (Some (sent_at store.now.sents p.0)) at)) }
+    ensures { IfOk result (λ o. IsSteady store.now o (methods.claim (entries_of store.now base.now.entries.items) (Some (sent_at store.now.sents p.0)) at)) }
 {
     if is_in_base(store, base, p) {
         return Ok(Outcome::Theorem(p));
@@ -58,15 +57,15 @@ fn conclude(
 pub(crate) fn claim(
     alloc: Global,
     store: &mut Store,
-    base: &[SentId],
+    base: &Base,
     v: Value,
     at: Pos,
 ) -> Result<Outcome, AllocError>
-    requires base { AreIn store.old base.now }
+    requires base { AreIn store.old base.now.entries.items }
     requires argument { IsGood store.old v }
     ensures grows { Grows store.old store.new }
     ensures sorted { (sig : Declared) → IsSortedIn sig store.old → IsSortedIn sig store.new }
-    ensures outcome { IfOk result (λ o. IsSteady store.new o (methods.claim (sents_of store.old base.now) (sentence_of (value_at store.old v)) at)) }
+    ensures outcome { IfOk result (λ o. IsSteady store.new o (methods.claim (entries_of store.old base.now.entries.items) (sentence_of (value_at store.old v)) at)) }
 {
     match sentence(store, v)? {
         Some(p) => {
@@ -101,18 +100,18 @@ fn implication_parts(store: &Store, p: SentId) -> Option<(SentId, SentId)>
 fn detach(
     alloc: Global,
     store: &Store,
-    base: &[SentId],
+    base: &Base,
     p: SentId,
     parts: (SentId, SentId),
     q: SentId,
     at: Pos,
 ) -> Result<Outcome, AllocError>
-    requires base { AreIn store.now base.now }
+    requires base { AreIn store.now base.now.entries.items }
     requires implication { p.0 < length store.now.sents }
     requires small { IsSmallValue (a_sentence (sent_at store.now.sents p.0)) }
     requires joined { AreParts store.now (sent_at store.now.sents p.0) (Some parts) }
     requires premise { q.0 < length store.now.sents }
-    ensures { IfOk result (λ o. IsSteady store.now o (methods.detached (sents_of store.now base.now) (sent_at store.now.sents p.0) (sent_at store.now.sents parts.0.0) (sent_at store.now.sents parts.1.0) (sent_at store.now.sents q.0) at)) }
+    ensures { IfOk result (λ o. IsSteady store.now o (methods.detached (entries_of store.now base.now.entries.items) (sent_at store.now.sents p.0) (sent_at store.now.sents parts.0.0) (sent_at store.now.sents parts.1.0) (sent_at store.now.sents q.0) at)) }
 {
     let (a, b) = parts;
     if !is_same_sent(store, q, a) {
@@ -134,20 +133,20 @@ fn detach(
 fn from_implication(
     alloc: Global,
     store: &mut Store,
-    base: &[SentId],
+    base: &Base,
     p: SentId,
     parts: (SentId, SentId),
     w: Value,
     at: Pos,
 ) -> Result<Outcome, AllocError>
-    requires base { AreIn store.old base.now }
+    requires base { AreIn store.old base.now.entries.items }
     requires implication { p.0 < length store.old.sents }
     requires small { IsSmallValue (a_sentence (sent_at store.old.sents p.0)) }
     requires joined { AreParts store.old (sent_at store.old.sents p.0) (Some parts) }
     requires premise { IsGood store.old w }
     ensures grows { Grows store.old store.new }
     ensures sorted { (sig : Declared) → IsSortedIn sig store.old → IsSortedIn sig store.new }
-    ensures outcome { IfOk result (λ o. IsSteady store.new o (methods.from_implication (sents_of store.old base.now) (sent_at store.old.sents p.0) (sent_at store.old.sents parts.0.0) (sent_at store.old.sents parts.1.0) (sentence_of (value_at store.old w)) at)) }
+    ensures outcome { IfOk result (λ o. IsSteady store.new o (methods.from_implication (entries_of store.old base.now.entries.items) (sent_at store.old.sents p.0) (sent_at store.old.sents parts.0.0) (sent_at store.old.sents parts.1.0) (sentence_of (value_at store.old w)) at)) }
 {
     match sentence(store, w)? {
         Some(q) => {
@@ -165,18 +164,18 @@ fn from_implication(
 fn modus_ponens(
     alloc: Global,
     store: &mut Store,
-    base: &[SentId],
+    base: &Base,
     p: SentId,
     w: Value,
     at: Pos,
 ) -> Result<Outcome, AllocError>
-    requires base { AreIn store.old base.now }
+    requires base { AreIn store.old base.now.entries.items }
     requires implication { p.0 < length store.old.sents }
     requires small { IsSmallValue (a_sentence (sent_at store.old.sents p.0)) }
     requires premise { IsGood store.old w }
     ensures grows { Grows store.old store.new }
     ensures sorted { (sig : Declared) → IsSortedIn sig store.old → IsSortedIn sig store.new }
-    ensures outcome { IfOk result (λ o. IsSteady store.new o (methods.modus_ponens (sents_of store.old base.now) (sent_at store.old.sents p.0) (sentence_of (value_at store.old w)) at)) }
+    ensures outcome { IfOk result (λ o. IsSteady store.new o (methods.modus_ponens (entries_of store.old base.now.entries.items) (sent_at store.old.sents p.0) (sentence_of (value_at store.old w)) at)) }
 {
     match implication_parts(store, p) {
         Some(parts) => {
@@ -194,17 +193,17 @@ fn modus_ponens(
 pub(crate) fn mp(
     alloc: Global,
     store: &mut Store,
-    base: &[SentId],
+    base: &Base,
     v: Value,
     w: Value,
     at: Pos,
 ) -> Result<Outcome, AllocError>
-    requires base { AreIn store.old base.now }
+    requires base { AreIn store.old base.now.entries.items }
     requires implication { IsGood store.old v }
     requires premise { IsGood store.old w }
     ensures grows { Grows store.old store.new }
     ensures sorted { (sig : Declared) → IsSortedIn sig store.old → IsSortedIn sig store.new }
-    ensures outcome { IfOk result (λ o. IsSteady store.new o (methods.mp (sents_of store.old base.now) (sentence_of (value_at store.old v)) (sentence_of (value_at store.old w)) at)) }
+    ensures outcome { IfOk result (λ o. IsSteady store.new o (methods.mp (entries_of store.old base.now.entries.items) (sentence_of (value_at store.old v)) (sentence_of (value_at store.old w)) at)) }
 {
     match sentence(store, v)? {
         Some(p) => {

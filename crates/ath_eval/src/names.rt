@@ -1,17 +1,18 @@
 // Names, variables and ascriptions.
 
-ghost use Rattle.std.specs.Prelude.{◌≡◌, ◌<◌, ◌≤◌, ◌+◌, ◌^◌, IfOk, Some, true};
+ghost use Rattle.std.specs.Prelude.{◌≡◌, ◌<◌, ◌≤◌, IfOk, Some, true};
 ghost use Rattle.ath_sorts.specs.Signature.{Signature as Declared, symbol_of};
 ghost use Rattle.ath_terms.specs.Trees.{Trees, Grows};
 ghost use Rattle.ath_terms.specs.SortsIn.{IsSortedIn};
 ghost use Rattle.ath_trees.specs.WellSorted.{is_valid_sort};
 ghost use Rattle.ath_env.specs.LookUp.{looked_up};
-ghost use Rattle.ath_env.specs.Values.{Value as Tree, IsValue, value_at};
+ghost use Rattle.ath_env.specs.Values.{Value as Tree};
+ghost use Rattle.ath_env.specs.Stands.{IsValue, value_at};
 ghost use Rattle.ath_eval.specs.Applying.{symbol_named, value_named};
 ghost use Rattle.ath_eval.specs.Arguments.{IsSmallValue, IsArgument, IsGood};
 ghost use Rattle.ath_eval.specs.Evaluation as evaluation;
 ghost use Rattle.ath_eval.specs.Outcomes.{Context};
-ghost use Rattle.ath_eval.specs.Room.{IsNarrow};
+ghost use Rattle.ath_eval.specs.Room.{charged, IsBelow, IsNarrow, IsRoomy};
 ghost use Rattle.ath_eval.specs.World.{IsAnswer, IsSteady};
 
 use crate::building::term_made;
@@ -22,10 +23,9 @@ use crate::world::Outcome;
 use ath_declarations::sort_of_text;
 use ath_env::{Value, look_up};
 use ath_print::FaultKind;
-use ath_sorts::sorts::copied;
 use ath_sorts::{Signature, Sort, Sym};
 use ath_syntax::{Pos, SortText};
-use ath_terms::{Fresh, Store, TermNode};
+use ath_terms::{Fresh, Store};
 use ath_trees::{TermId, Var};
 use std::alloc::{AllocError, Global};
 
@@ -40,10 +40,10 @@ fn name_symbol(
 ) -> Result<Outcome, AllocError>
     requires sorted { IsSortedIn sig.now store.old }
     requires narrow { IsNarrow sig.now }
-    requires counter { fresh.old.sort < 2 ^ 62 }
+    requires counters { IsRoomy 0 fresh.old }
     ensures grows { Grows store.old store.new }
     ensures sorted { IsSortedIn sig.now store.new }
-    ensures room { fresh.new.sort ≤ fresh.old.sort + 64 }
+    ensures room { IsBelow fresh.new (charged 1 fresh.old) }
     ensures outcome { IfOk result (λ o. IsAnswer store.new fresh.old fresh.new o (symbol_named sig.now f (symbol_of sig.now f) at)) }
 {
     match arguments_wanted(sig, f) {
@@ -69,11 +69,11 @@ fn name_value(
 ) -> Result<Outcome, AllocError>
     requires sorted { IsSortedIn sig.now store.old }
     requires narrow { IsNarrow sig.now }
-    requires counter { fresh.old.sort < 2 ^ 62 }
+    requires counters { IsRoomy 0 fresh.old }
     ensures grows { Grows store.old store.new }
     ensures sorted { IsSortedIn sig.now store.new }
-    ensures room { fresh.new.sort ≤ fresh.old.sort + 64 }
-    ensures outcome { IfOk result (λ o. (c : Context) (v : Tree) → c.signature ≡ sig.now → IsArgument store.old value v → IsAnswer store.new fresh.old fresh.new o (value_named c v at)) }
+    ensures room { IsBelow fresh.new (charged 1 fresh.old) }
+    ensures outcome { IfOk result (λ o. (c : Context) (v : Tree) → c.theory.signature ≡ sig.now → IsArgument store.old value v → IsAnswer store.new fresh.old fresh.new o (value_named c v at)) }
 {
     match value {
         Value::Symbol(f) => {
@@ -95,11 +95,11 @@ pub(crate) fn find(
 ) -> Result<Outcome, AllocError>
     requires sorted { IsSortedIn set.now.sig.now store.old }
     requires narrow { IsNarrow set.now.sig.now }
-    requires counter { fresh.old.sort < 2 ^ 62 }
+    requires counters { IsRoomy 0 fresh.old }
     ensures grows { Grows store.old store.new }
     ensures sorted { IsSortedIn set.now.sig.now store.new }
-    ensures room { fresh.new.sort ≤ fresh.old.sort + 64 }
-    ensures outcome { IfOk result (λ o. (c : Context) → c.signature ≡ set.now.sig.now → IsAnswer store.new fresh.old fresh.new o (evaluation.found c name at (looked_up set.now.names.now set.now.sig.now name))) }
+    ensures room { IsBelow fresh.new (charged 1 fresh.old) }
+    ensures outcome { IfOk result (λ o. (c : Context) → c.theory.signature ≡ set.now.sig.now → IsAnswer store.new fresh.old fresh.new o (evaluation.found c name at (looked_up set.now.names.now set.now.sig.now name))) }
 {
     match look_up(set.names, set.sig, name) {
         Some(value) => {
@@ -125,9 +125,10 @@ fn variable_of(
     ensures sorted { (sig : Declared) → IsSortedIn sig store.old → is_valid_sort sig sort ≡ true → IsSortedIn sig store.new }
     ensures outcome { IfOk result (λ o. IsSteady store.new o (evaluation.variable_of name index sort)) }
 {
-    let kept = copied(alloc, &sort)?;
-    let t = store.add_term(TermNode::Var(Var { name, index, sort }), kept)?;
-    Ok(Outcome::Value(Value::Term(t)))
+    match store.var(alloc, &Var { name, index, sort }) {
+        Ok(t) => Ok(Outcome::Value(Value::Term(t))),
+        Err(_memory) => Err(AllocError),
+    }
 }
 
 /// A variable of the sort that a text means.
@@ -143,7 +144,7 @@ fn sorted_variable(
     requires sorted { IsSortedIn sig.now store.old }
     ensures grows { Grows store.old store.new }
     ensures sorted { IsSortedIn sig.now store.new }
-    ensures outcome { IfOk result (λ o. (c : Context) → c.signature ≡ sig.now → IsSteady store.new o (evaluation.variable c name index (Some text.now) at)) }
+    ensures outcome { IfOk result (λ o. (c : Context) → c.theory.signature ≡ sig.now → IsSteady store.new o (evaluation.variable c name index (Some text.now) at)) }
 {
     match sort_of_text(alloc, sig, text) {
         Ok(sort) => {
@@ -169,11 +170,11 @@ pub(crate) fn variable(
     at: Pos,
 ) -> Result<Outcome, AllocError>
     requires sorted { IsSortedIn sig.now store.old }
-    requires counter { fresh.old.sort < 2 ^ 62 }
+    requires counters { IsRoomy 0 fresh.old }
     ensures grows { Grows store.old store.new }
     ensures sorted { IsSortedIn sig.now store.new }
-    ensures room { fresh.new.sort ≤ fresh.old.sort + 64 }
-    ensures outcome { IfOk result (λ o. (c : Context) → c.signature ≡ sig.now → IsAnswer store.new fresh.old fresh.new o (evaluation.variable c name index text.now at)) }
+    ensures room { IsBelow fresh.new (charged 1 fresh.old) }
+    ensures outcome { IfOk result (λ o. (c : Context) → c.theory.signature ≡ sig.now → IsAnswer store.new fresh.old fresh.new o (evaluation.variable c name index text.now at)) }
 {
     match text {
         None => {
@@ -201,7 +202,7 @@ fn ascribe_term(
     requires term { IsGood store.old (Value.Term t) }
     ensures grows { Grows store.old store.new }
     ensures sorted { IsSortedIn sig.now store.new }
-    ensures outcome { IfOk result (λ o. (c : Context) → c.signature ≡ sig.now → IsSteady store.new o (evaluation.ascribed c text.now (value_at store.old (Value.Term t)) at)) }
+    ensures outcome { IfOk result (λ o. (c : Context) → c.theory.signature ≡ sig.now → IsSteady store.new o (evaluation.ascribed c text.now (value_at store.old (Value.Term t)) at)) }
 {
     match sort_of_text(alloc, sig, text) {
         Ok(sort) => {
@@ -229,7 +230,7 @@ pub(crate) fn ascribe(
     requires value { IsGood store.old value }
     ensures grows { Grows store.old store.new }
     ensures sorted { IsSortedIn sig.now store.new }
-    ensures outcome { IfOk result (λ o. (c : Context) → c.signature ≡ sig.now → IsSteady store.new o (evaluation.ascribed c text.now (value_at store.old value) at)) }
+    ensures outcome { IfOk result (λ o. (c : Context) → c.theory.signature ≡ sig.now → IsSteady store.new o (evaluation.ascribed c text.now (value_at store.old value) at)) }
 {
     match value {
         Value::Term(t) => {

@@ -1,23 +1,21 @@
 // Applications and calls, by the numbers of their parts.
 
-ghost use Rattle.std.specs.Prelude.{◌≡◌, ◌<◌, ◌≤◌, ◌+◌, ◌^◌, List, IfOk, IfSome, length, slice_get};
+ghost use Rattle.std.specs.Prelude.{◌≡◌, ◌<◌, ◌≤◌, List, IfOk, IfSome, length, slice_get};
 ghost use Rattle.ath_syntax.specs.Fits.{most};
-ghost use Rattle.ath_syntax.specs.Stands.{IsPhrase};
-ghost use Rattle.ath_syntax.specs.Tree.{Phrase as PhraseTree};
 ghost use Rattle.ath_terms.specs.SortsIn.{IsSortedIn};
 ghost use Rattle.ath_terms.specs.Trees.{Grows};
 ghost use Rattle.ath_env.specs.Values.{Value as Tree};
-ghost use Rattle.ath_eval.specs.Arguments.{IsArgument, AreArguments};
+ghost use Rattle.ath_eval.specs.Arguments.{AreArguments};
 ghost use Rattle.ath_eval.specs.Base.{AreIn};
-ghost use Rattle.ath_eval.specs.Machine.{acts, arguments_at};
-ghost use Rattle.ath_eval.specs.Room.{IsNarrow};
-ghost use Rattle.ath_eval.specs.Settings.{reading};
-ghost use Rattle.ath_eval.specs.World.{IsAnswer};
+ghost use Rattle.ath_eval.specs.Machine.{arguments_at};
+ghost use Rattle.ath_eval.specs.Room.{charged, IsBelow, IsNarrow, IsRoomy};
+ghost use Rattle.ath_eval.specs.Settings.{Acts};
+ghost use Rattle.ath_eval.specs.declared.frame.Frame.{Frame as Waiting};
 
 use crate::calls::{apply, call};
+use crate::frame::State;
 use crate::refusals::bare;
 use crate::setting::Setting;
-use crate::world::Outcome;
 use ath_env::Value;
 use ath_print::FaultKind;
 use ath_syntax::{Form, PhraseId, Phrases};
@@ -37,7 +35,7 @@ pub(crate) fn argument(phrases: &Phrases, phrase: PhraseId, k: usize) -> Option<
     }
 }
 
-/// What becomes of the head and the arguments of an application or a call.
+/// What comes next when the head and the arguments of an application or a call are known.
 pub(crate) fn act(
     alloc: Global,
     set: &Setting<'_>,
@@ -46,29 +44,29 @@ pub(crate) fn act(
     phrase: PhraseId,
     head: Value,
     args: &[Value],
-) -> Result<Outcome, AllocError>
+) -> Result<State, AllocError>
     requires phrase { phrase.0 < length set.now.phrases.now.phrases }
-    requires base { AreIn store.old set.now.base.now }
+    requires base { AreIn store.old set.now.base.now.entries.items }
     requires sorted { IsSortedIn set.now.sig.now store.old }
     requires narrow { IsNarrow set.now.sig.now }
-    requires counter { fresh.old.sort < 2 ^ 62 }
+    requires counters { IsRoomy 0 fresh.old }
     requires few { length args.now ≤ most }
     requires arguments { (xs : List Tree) × AreArguments store.old args.now xs }
     ensures grows { Grows store.old store.new }
     ensures sorted { IsSortedIn set.now.sig.now store.new }
-    ensures room { fresh.new.sort ≤ fresh.old.sort + 64 }
-    ensures outcome { IfOk result (λ o. (x : PhraseTree) (v : Tree) (vs : List Tree) → IsPhrase set.now.phrases.now phrase x → IsArgument store.old head v → AreArguments store.old args.now vs → IsAnswer store.new fresh.old fresh.new o (acts (reading set.now store.old) x v vs)) }
+    ensures room { IsBelow fresh.new (charged 1 fresh.old) }
+    ensures steps { IfOk result (λ st. (fs : List Waiting) → Acts set.now store.old fresh.old phrase head args.now fs store.new fresh.new st) }
 {
     let node = set.phrases.node(phrase);
     match &node.form {
         Form::Apply(_, _) => {
             let outcome = apply(alloc, set.sig, store, fresh, head, args, node.pos)?;
-            Ok(outcome)
+            Ok(State::Done(outcome))
         }
         Form::Call(_, _) => {
             let outcome = call(alloc, store, set.base, head, args, node.pos)?;
-            Ok(outcome)
+            Ok(State::Done(outcome))
         }
-        _other => Ok(bare(alloc, FaultKind::NotBuilt, node.pos)),
+        _other => Ok(State::Done(bare(alloc, FaultKind::NotBuilt, node.pos))),
     }
 }

@@ -7,7 +7,7 @@ ghost use Rattle.ath_terms.specs.declared.measure.BuildError.TheVariants as buil
 ghost use Rattle.ath_print.specs.declared.fault.FaultKind.TheVariants.{ArgCount, Unbound};
 ghost use Rattle.ath_print.specs.Events.{name_named, number_named};
 ghost use Rattle.ath_print.specs.Stands.{IsFault};
-ghost use Rattle.ath_eval.specs.Building.{why_unbuilt, IsErrorIn};
+ghost use Rattle.ath_eval.specs.Stands.{why_unbuilt, IsErrorIn};
 ghost use Rattle.ath_eval.specs.Evaluation.{sort_refusal};
 ghost use Rattle.ath_eval.specs.Outcomes.{fails, refusal};
 ghost use Rattle.ath_eval.specs.Methods.{not_in_base};

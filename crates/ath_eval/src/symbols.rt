@@ -1,14 +1,15 @@
 // Applications of symbols.
 
-ghost use Rattle.std.specs.Prelude.{◌≡◌, ◌<◌, ◌≤◌, ◌+◌, ◌^◌, IfOk, Some, None, length, map};
+ghost use Rattle.std.specs.Prelude.{◌≡◌, ◌<◌, ◌≤◌, IfOk, Some, None, length, map};
 ghost use Rattle.std.specs.List.{All};
 ghost use Rattle.ath_sorts.specs.Signature.{Signature as Declared, symbol_of};
 ghost use Rattle.ath_sorts.specs.declared.signature.Symbol.{Symbol};
+ghost use Rattle.ath_syntax.specs.Fits.{most};
 ghost use Rattle.ath_terms.specs.Trees.{Grows};
 ghost use Rattle.ath_terms.specs.SortsIn.{IsSortedIn};
 ghost use Rattle.ath_eval.specs.Applying.{symbol_applied, equated, symbol_or_equation};
 ghost use Rattle.ath_eval.specs.Arguments.{IsGood, values_at, wanted_by};
-ghost use Rattle.ath_eval.specs.Room.{IsNarrow};
+ghost use Rattle.ath_eval.specs.Room.{charged, IsBelow, IsNarrow, IsRoomy};
 ghost use Rattle.ath_eval.specs.World.{IsAnswer, IsSteady};
 
 use crate::building::{sentence_made, term_made};
@@ -44,13 +45,13 @@ fn apply_terms(
 ) -> Result<Outcome, AllocError>
     requires sorted { IsSortedIn sig.now store.old }
     requires narrow { IsNarrow sig.now }
-    requires counter { fresh.old.sort < 2 ^ 62 }
+    requires counters { IsRoomy 0 fresh.old }
     requires declared { (d : Symbol) × (symbol_of sig.now f ≡ Some d) × (length d.args ≡ length args.now) }
-    requires few { length args.now ≤ 4194304 }
+    requires few { length args.now ≤ most }
     requires arguments { All (IsGood store.old) args.now }
     ensures grows { Grows store.old store.new }
     ensures sorted { IsSortedIn sig.now store.new }
-    ensures room { fresh.new.sort ≤ fresh.old.sort + 64 }
+    ensures room { IsBelow fresh.new (charged 1 fresh.old) }
     ensures outcome { IfOk result (λ o. (d : Symbol) → symbol_of sig.now f ≡ Some d → IsAnswer store.new fresh.old fresh.new o (symbol_applied sig.now d (values_at store.old args.now) at)) }
 {
     match as_terms(alloc, args)? {
@@ -79,13 +80,13 @@ pub(crate) fn apply_declared(
 ) -> Result<Outcome, AllocError>
     requires sorted { IsSortedIn sig.now store.old }
     requires narrow { IsNarrow sig.now }
-    requires counter { fresh.old.sort < 2 ^ 62 }
+    requires counters { IsRoomy 0 fresh.old }
     requires declared { wanted_by (symbol_of sig.now f) ≡ Some want }
-    requires few { length args.now ≤ 4194304 }
+    requires few { length args.now ≤ most }
     requires arguments { All (IsGood store.old) args.now }
     ensures grows { Grows store.old store.new }
     ensures sorted { IsSortedIn sig.now store.new }
-    ensures room { fresh.new.sort ≤ fresh.old.sort + 64 }
+    ensures room { IsBelow fresh.new (charged 1 fresh.old) }
     ensures outcome { IfOk result (λ o. (d : Symbol) → symbol_of sig.now f ≡ Some d → IsAnswer store.new fresh.old fresh.new o (symbol_applied sig.now d (values_at store.old args.now) at)) }
 {
     if want == args.len() {
@@ -150,12 +151,12 @@ pub(crate) fn apply_symbol(
 ) -> Result<Outcome, AllocError>
     requires sorted { IsSortedIn sig.now store.old }
     requires narrow { IsNarrow sig.now }
-    requires counter { fresh.old.sort < 2 ^ 62 }
-    requires few { length args.now ≤ 4194304 }
+    requires counters { IsRoomy 0 fresh.old }
+    requires few { length args.now ≤ most }
     requires arguments { All (IsGood store.old) args.now }
     ensures grows { Grows store.old store.new }
     ensures sorted { IsSortedIn sig.now store.new }
-    ensures room { fresh.new.sort ≤ fresh.old.sort + 64 }
+    ensures room { IsBelow fresh.new (charged 1 fresh.old) }
     ensures outcome { IfOk result (λ o. IsAnswer store.new fresh.old fresh.new o (symbol_or_equation sig.now (symbol_of sig.now f) (values_at store.old args.now) at)) }
 {
     match arguments_wanted(sig, f) {

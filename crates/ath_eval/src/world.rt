@@ -3,6 +3,7 @@
 ghost use Rattle.ath_eval.specs.Base.{AreIn};
 ghost use Rattle.ath_eval.specs.Room.{IsRoomy, IsNarrow};
 
+use ath_base::Base;
 use ath_env::Value;
 use ath_names::Names;
 use ath_print::Fault;
@@ -11,18 +12,18 @@ use ath_syntax::{Phrases, Pos};
 use ath_terms::{Fresh, Store};
 use ath_trees::SentId;
 
-/// The state of a run: the names, what is declared, the nodes of sentences and of phrases, the assumption base with its
-/// oldest sentence first, the steps that are left, and the counters of fresh names.
+/// The state of a run: the names, what is declared, the nodes of sentences and of phrases, the assumption base, the
+/// steps that are left, and the counters of fresh names.
 #[derive(Drop)]
 pub struct World {
     pub names: Names,
     pub sig: Signature,
     pub store: Store,
-    pub base: Vec<SentId>,
+    pub base: Base,
     pub phrases: Phrases,
     pub fuel: u64,
     pub fresh: Fresh,
-    ghost in_store: { AreIn store base.items },
+    ghost in_store: { AreIn store base.entries.items },
     ghost roomy: { IsRoomy fuel fresh },
     ghost narrow: { IsNarrow sig },
 }

@@ -5,10 +5,9 @@ use Rattle.std.proofs.lemmas.Bool.{eq-eqb, ne_eqb, eqb-false}
 use Rattle.std.proofs.lemmas.List.{append-nil}
 use Rattle.std.proofs.lemmas.List.Elements.{filter-append}
 use Rattle.ath_sorts.specs.declared.sorts.Sym.{Sym}
-use Rattle.ath_syntax.specs.Fits.{same_name}
 use Rattle.ath_syntax.specs.Size.{pattern_size, patterns_size}
-use Rattle.ath_syntax.specs.Tree.{Pattern, Patterns, no_patterns, more_patterns, Phrase, Phrases, no_phrases, more_phrases, Bindings, no_bindings, more_bindings, Clauses, no_clauses, more_clauses, Branches, no_branches, more_branches, is_deduction, phrases_deduce, clauses_deduce, branches_deduce}
-use Rattle.ath_syntax.specs.Proper.{ProperPattern, ProperPatterns, phrases_count, bindings_count, bound_names, clauses_count, clauses_patterns, branches_count, IsOfKind, is_closure, Proper, ProperPhrases, ProperBindings, ProperClosures, ProperClauses, ProperBranches}
+use Rattle.ath_syntax.specs.Tree.{Pattern, Patterns, no_patterns, more_patterns, Phrase, Phrases, no_phrases, more_phrases, Bindings, no_bindings, more_bindings, Clauses, no_clauses, more_clauses, Branches, no_branches, more_branches, is_deduction, phrases_deduce, clauses_deduce, branches_deduce, same_name, bound_names}
+use Rattle.ath_syntax.specs.Proper.{ProperPattern, ProperPatterns, phrases_count, bindings_count, clauses_count, clauses_patterns, branches_count, IsOfKind, is_closure, Proper, ProperPhrases, ProperBindings, ProperClosures, ProperClauses, ProperBranches}
 use Rattle.ath_grammar.specs.Trees.{add_pattern, add_phrase, add_binding, add_clause, add_branch, last_deduces}
 
 -- phrases

@@ -1,14 +1,14 @@
 -- All classes: what holds of each in a list holds of every one, and they are told apart by their codes.
-use Rattle.std.proofs.Common.{◌≡◌, ℕ, zero, suc, List, [], ◌∷◌, Bool, true, false, refl, sym, ap, ◌∙◌, subst}
-use Rattle.std.specs.Bool.{nat_eq}
-use Rattle.std.proofs.lemmas.Bool.{eqb-true}
+use Rattle.std.proofs.Common.{◌≡◌, ℕ, zero, suc, List, [], ◌∷◌, Bool, true, refl, sym, ap, ◌∙◌, subst}
+use Rattle.std.proofs.lemmas.Bool.{eq-eqb, eqb-true}
 use Rattle.ath_grammar.specs.declared.class.WordClass.TheVariants as W
 use Rattle.ath_grammar.specs.declared.class.Opener.TheVariants as O
 use Rattle.ath_grammar.specs.declared.class.DirectiveWord.TheVariants as D
 use Rattle.ath_grammar.specs.declared.class.Mark.TheVariants as M
 use Rattle.ath_grammar.specs.declared.class.Class.{Class}
 use Rattle.ath_grammar.specs.declared.class.Class.TheVariants as C
-use Rattle.ath_grammar.specs.Tokens.{Placed, class_of, code, is_class}
+use Rattle.ath_grammar.specs.Tokens.{Placed, class_of}
+use Rattle.ath_grammar.specs.Codes.{code, is_class}
 use Rattle.ath_grammar.specs.Tables.{both}
 use Rattle.ath_grammar.proofs.Completes.{both_left, both_right}
 
@@ -41,6 +41,9 @@ decoded _ = refl
 
 pub same_class : (c : Class) (t : Placed) → is_class c t ≡ true → c ≡ class_of t
 same_class c t e = sym (decoded c) ∙ ap (λ (n : ℕ). at_code classes n) (eqb-true (code c) (code (class_of t)) e) ∙ decoded (class_of t)
+
+pub own_class : (c : Class) (t : Placed) → c ≡ class_of t → is_class c t ≡ true
+own_class c t e = eq-eqb (code c) (code (class_of t)) (ap (λ (d : Class). code d) e)
 
 abbrev pub holds : (Class → Bool) → List Class → Bool
 holds p [] = p C.Wild

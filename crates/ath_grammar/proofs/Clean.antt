@@ -1,12 +1,13 @@
 -- No item that the machine leaves waits for a token of some classes, if none of the table's rows has such an item.
-use Rattle.std.proofs.Common.{◌≡◌, ℕ, zero, suc, List, [], ◌∷◌, ◌++◌, Bool, true, false, not, Option, Some, None, refl, sym, ap, subst}
+use Rattle.std.proofs.Common.{◌≡◌, ℕ, zero, suc, List, [], ◌∷◌, ◌++◌, Bool, true, false, not, Option, Some, None, refl}
 use Rattle.ath_grammar.specs.declared.class.Class.{Class}
 use Rattle.ath_grammar.specs.declared.symbol.Symbol.{Symbol}
 use Rattle.ath_grammar.specs.declared.item.Want.{Want}
 use Rattle.ath_grammar.specs.declared.item.Item.{Item}
 use Rattle.ath_grammar.specs.declared.item.Item.TheVariants as I
-use Rattle.ath_grammar.specs.Tokens.{Placed, is_class}
-use Rattle.ath_grammar.specs.Tables.{Row, none, take, skip, begin_as, Table, Start, no_start, begin, pass, both, fits, want_of, told, told_all, behind, by_token, start, Algebra, acts}
+use Rattle.ath_grammar.specs.Tokens.{Placed}
+use Rattle.ath_grammar.specs.Codes.{is_class}
+use Rattle.ath_grammar.specs.Tables.{Row, none, take, skip, begin_as, Table, Start, no_start, begin, pass, both, fits, want_of, told, told_all, behind, by_token, start, Algebra}
 use Rattle.ath_grammar.specs.Spells.{starts}
 use Rattle.ath_grammar.specs.Machine.{Outcome, over, took, refused, if_taken, where_token, tokens_of, opens, also, on_over, advance, settle, taken, step, run}
 use Rattle.ath_grammar.proofs.Completes.{clean, both_left, both_right}

@@ -1,8 +1,6 @@
 -- What is begun can be completed, for any table for which a witness computes. Some symbols end by no token of their own: they
 -- are left where none of some classes follows, and nothing else waits for a token of these.
-use Rattle.std.proofs.Common.{◌≡◌, ℕ, zero, suc, List, [], ◌∷◌, ◌++◌, Bool, true, false, not, ◌||◌, Option, Some, None, refl, sym, ap, subst}
-use Rattle.std.specs.Bool.{nat_eq}
-use Rattle.std.proofs.lemmas.Bool.{eq-eqb}
+use Rattle.std.proofs.Common.{◌≡◌, ℕ, zero, suc, List, [], ◌∷◌, ◌++◌, Bool, true, false, not, ◌||◌, Option, Some, None, refl, sym, subst}
 use Rattle.ath_grammar.specs.declared.class.Class.{Class}
 use Rattle.ath_grammar.specs.declared.symbol.Symbol.{Symbol}
 use Rattle.ath_grammar.specs.declared.action.Action.{Action}
@@ -14,7 +12,7 @@ use Rattle.ath_grammar.specs.declared.item.Attr.{Attr}
 use Rattle.ath_grammar.specs.declared.item.Attr.TheVariants.{Is, Given}
 use Rattle.ath_grammar.specs.declared.item.Item.{Item}
 use Rattle.ath_grammar.specs.declared.item.Item.TheVariants as I
-use Rattle.ath_grammar.specs.Tokens.{Placed, class_of, next_class, code, is_class}
+use Rattle.ath_grammar.specs.Tokens.{Placed, class_of, next_class}
 use Rattle.ath_grammar.specs.Tables.{Row, skip, Table, Start, no_start, begin, pass, start, both, fits, ruled, want_of, Algebra, acts}
 use Rattle.ath_grammar.specs.Spells.{admits, Spells, spelled, a_token, a_symbol, an_act, Starts, begun, passed}
 
@@ -94,14 +92,11 @@ module _ (M : Algebra) (W : Witness M) (free : (c : Class) → W.suits Free c �
   avoided : (c : Class) (t : Placed) → class_of t ≡ c → not (E.avoids c) ≡ true → E.avoids (class_of t) ≡ false
   avoided c t e h = subst (λ (d : Class). E.avoids d ≡ false) (sym e) (not_false (E.avoids c) h)
 
-  is_own : (c : Class) (vs : M.State) → is_class c (W.token Free c vs) ≡ true
-  is_own c vs = eq-eqb (code c) (code (class_of (W.token Free c vs))) (ap (λ (d : Class). code d) (sym (W.of_class Free c vs)))
-
   one_item : (s : Symbol) (x : Attr) (is : List Item) → ((k : Bool) → StartCompletes s (want_of x k)) → Completes is → Completes (I.Symbol s x ∷ is)
   one_item s x is h k vs = let m = h (M.kind vs) (M.kind vs) is k vs in (m.0, m.1, a_symbol m.2, m.3)
 
   one_token : (c : Class) (is : List Item) → not (E.avoids c) ≡ true → Completes is → Completes (I.Token c ∷ is)
-  one_token c is e k vs = let m = k (M.save (W.token Free c vs) vs) in (W.token Free c vs ∷ m.0, m.1, a_token (is_own c vs) m.2, avoided c (W.token Free c vs) (W.of_class Free c vs) e)
+  one_token c is e k vs = let m = k (M.save (W.token Free c vs) vs) in (W.token Free c vs ∷ m.0, m.1, a_token (sym (W.of_class Free c vs)) m.2, avoided c (W.token Free c vs) (W.of_class Free c vs) e)
 
   one_act : (x : Action) (is : List Item) → Completes is → Completes (I.Act x ∷ is)
   one_act x is k vs = let m = k (M.act x vs) in (m.0, m.1, an_act m.2, m.3)

@@ -1,13 +1,12 @@
 -- What each action makes of proper values is proper, and weighs no more than they.
-use Rattle.std.proofs.Common.{◌≡◌, ℕ, suc, ◌+◌, ◌≤◌, ◌<◌, List, [], ◌∷◌, ◌++◌, length, Bool, true, false, not, Option, Some, None, refl, sym, ap, ◌∙◌, subst, arith}
+use Rattle.std.proofs.Common.{◌≡◌, ℕ, suc, ◌+◌, ◌≤◌, List, [], ◌∷◌, ◌++◌, length, Bool, true, false, not, Option, Some, None, refl, sym, ap, ◌∙◌, subst, arith}
 use Rattle.std.specs.List.{IsDistinct, list_any}
 use Rattle.ath_sorts.specs.declared.sorts.Sym.{Sym}
-use Rattle.ath_syntax.specs.Fits.{most, ParamsDiffer}
-use Rattle.ath_syntax.specs.Fits.{same_name}
-use Rattle.ath_syntax.specs.Proper.{ProperPattern, Proper, ProperPhrases, ProperBindings, ProperClauses, ProperBranches, IsOfKind, phrases_count, bindings_count, bound_names, clauses_count, clauses_patterns, branches_count, bound_kind}
+use Rattle.ath_syntax.specs.Fits.{most}
+use Rattle.ath_syntax.specs.Proper.{Proper, ProperPhrases, ProperBindings, ProperClauses, ProperBranches, IsOfKind, phrases_count, bindings_count, clauses_count, clauses_patterns, branches_count, bound_kind}
 use Rattle.ath_syntax.specs.declared.node.SortText.{SortText}
 use Rattle.ath_syntax.specs.Size.{pattern_size, patterns_size}
-use Rattle.ath_syntax.specs.Tree.{Pattern, Phrase, Phrases, no_phrases, more_phrases, Bindings, no_bindings, Clauses, no_clauses, Branches, no_branches, is_deduction, phrases_deduce, clauses_deduce, branches_deduce}
+use Rattle.ath_syntax.specs.Tree.{Pattern, Phrase, Bindings, Clauses, no_clauses, Branches, no_branches, is_deduction, phrases_deduce, clauses_deduce, branches_deduce, same_name, bound_names}
 use Rattle.ath_grammar.specs.declared.lexeme.Lexeme.TheVariants as L
 use Rattle.ath_grammar.specs.declared.action.Action.{Action}
 use Rattle.ath_grammar.specs.declared.action.Action.TheVariants as A
@@ -19,8 +18,8 @@ use Rattle.ath_grammar.specs.Tokens.{Placed, at, class_of}
 use Rattle.ath_grammar.specs.Known.{IsKnown}
 use Rattle.ath_grammar.specs.Tables.{same_kind, fits, bound, after}
 use Rattle.ath_grammar.specs.Trees as V
-use Rattle.ath_grammar.specs.Trees.{Value, act_on, saved, may_stand, name_in, names_in, pattern_in, patterns_in, phrase_in, phrases_in, bindings_in, clauses_in, branches_in, binders_in, deduces, seen, v1, v2, v3, rest, add_phrase, add_binding, add_clause, add_branch, add_pattern, last_deduces}
-use Rattle.ath_grammar.proofs.ProperTypes.{Ty, plain, thing, fresh, wild, some_word, a_pattern, patterns, names, params, binders, a_phrase, closure, phrases, some_phrases, unbound, added, bindings, closures, some_closures, unmatched, clauses, unchecked, branches, a_directive, Tys, size, weight, wanted_kind, others, Fits, All, Effect, effects, saves, E, D}
+use Rattle.ath_grammar.specs.Trees.{Value, act_on, saved, may_stand, name_in, names_in, pattern_in, patterns_in, phrase_in, phrases_in, bindings_in, clauses_in, branches_in, binders_in, v1, v2, v3, rest, add_phrase, add_binding, add_clause, add_branch, add_pattern}
+use Rattle.ath_grammar.proofs.ProperTypes.{plain, thing, fresh, wild, a_pattern, a_phrase, closure, phrases, some_phrases, unbound, added, bindings, closures, some_closures, unmatched, clauses, unchecked, branches, Tys, size, weight, wanted_kind, others, Fits, All, Effect, effects, saves, E, D}
 use Rattle.ath_grammar.proofs.Added.{phrases_more, phrases_proper, phrases_kind, bindings_more, bindings_proper, closures_proper, names_more, last_kind, clauses_more, clauses_proper, clauses_kind, clauses_size, branches_more, branches_proper, branches_kind, patterns_proper, patterns_size_more, distinct_more, others_more, others_wild}
 
 sum1 : (vs : List Value) → weight vs ≡ size (v1 vs) + weight (rest vs)

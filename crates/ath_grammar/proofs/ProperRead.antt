@@ -1,5 +1,5 @@
 -- What the grammar spells is proper, where kinds are told apart.
-use Rattle.std.proofs.Common.{◌≡◌, ◌≤◌, List, [], ◌∷◌, ◌++◌, length, Bool, true, false, ◌⊎◌, inl, inr, refl, sym, subst, arith, if◌then◌else◌}
+use Rattle.std.proofs.Common.{◌≡◌, ◌≤◌, List, [], ◌∷◌, length, Bool, true, false, ◌⊎◌, inl, inr, refl, subst, arith, if◌then◌else◌}
 use Rattle.ath_sorts.specs.declared.sorts.Sym.{Sym}
 use Rattle.ath_syntax.specs.declared.place.Pos.{Pos}
 use Rattle.ath_syntax.specs.Fits.{most}
@@ -16,9 +16,9 @@ use Rattle.ath_grammar.specs.declared.item.Attr.TheVariants.{Is}
 use Rattle.ath_grammar.specs.declared.item.Item.TheVariants as I
 use Rattle.ath_grammar.specs.Known.{Known}
 use Rattle.ath_grammar.specs.Tokens.{Placed, at, next_class}
-use Rattle.ath_grammar.specs.Spells.{Spells, a_symbol, an_act, begun}
+use Rattle.ath_grammar.specs.Spells.{a_symbol, an_act, begun}
 use Rattle.ath_grammar.specs.Grammar.{grammar}
-use Rattle.ath_grammar.specs.Trees.{a_place, a_directive, act_on, trees}
+use Rattle.ath_grammar.specs.Trees.{a_place, a_directive, act_on}
 use Rattle.ath_grammar.specs.Directives.{SpellsDirective}
 use Rattle.ath_grammar.proofs.Classes.{holds_of_all, every}
 use Rattle.ath_grammar.proofs.ProperTypes.{thing, a_directive as a_directive_type, keeps}

@@ -2,14 +2,13 @@
 use Rattle.std.proofs.Common.{◌≡◌, ℕ, zero, suc, ◌+◌, ◌≤◌, List, [], ◌∷◌, ◌++◌, length, Bool, true, false, Option, Some, None, refl, sym, ap, ◌∙◌, subst, append_assoc, arith, if◌then◌else◌}
 use Rattle.ath_sorts.specs.declared.sorts.Sym.{Sym}
 use Rattle.std.specs.List.{IsDistinct}
-use Rattle.ath_syntax.specs.Fits.{most, same_name}
-use Rattle.ath_syntax.specs.Proper.{ProperPhrases, ProperClosures, bindings_count, bound_names}
-use Rattle.ath_syntax.specs.Tree.{Phrases, no_phrases, more_phrases, Bindings}
+use Rattle.ath_syntax.specs.Fits.{most}
+use Rattle.ath_syntax.specs.Proper.{ProperPhrases, ProperClosures, bindings_count}
+use Rattle.ath_syntax.specs.Tree.{Phrases, no_phrases, more_phrases, Bindings, same_name, bound_names}
 use Rattle.ath_grammar.specs.declared.class.Class.{Class}
 use Rattle.ath_grammar.specs.declared.symbol.Symbol.{Symbol}
 use Rattle.ath_grammar.specs.declared.symbol.Symbol.TheVariants as S
 use Rattle.ath_grammar.specs.declared.action.Action.{Action}
-use Rattle.ath_grammar.specs.declared.action.Guard.{Guard}
 use Rattle.ath_grammar.specs.declared.action.Guard.TheVariants.{Free}
 use Rattle.ath_grammar.specs.declared.item.Want.{Want}
 use Rattle.ath_grammar.specs.declared.item.Want.TheVariants.{Any, Only}
@@ -18,13 +17,12 @@ use Rattle.ath_grammar.specs.declared.item.Attr.{Attr}
 use Rattle.ath_grammar.specs.declared.item.Attr.TheVariants.{Is, Given}
 use Rattle.ath_grammar.specs.declared.item.Item.{Item}
 use Rattle.ath_grammar.specs.declared.item.Item.TheVariants as I
-use Rattle.ath_grammar.specs.Known.{IsKnown, Known}
+use Rattle.ath_grammar.specs.Known.{Known}
 use Rattle.ath_grammar.specs.Tokens.{Placed, class_of, next_class}
-use Rattle.ath_grammar.specs.Tables.{Row, same_kind, none, take, skip, begin_as, Start, no_start, begin, pass, both, fits, bound, after, want_of, told, told_all, behind, by_token, start, acts}
+use Rattle.ath_grammar.specs.Tables.{Row, same_kind, none, take, skip, begin_as, Start, no_start, begin, pass, fits, bound, after, want_of, told, told_all, behind, by_token, start, acts}
 use Rattle.ath_grammar.specs.Spells.{Spells, spelled, a_token, a_symbol, an_act, Starts, begun, passed}
 use Rattle.ath_grammar.specs.Grammar.{grammar}
-use Rattle.ath_grammar.specs.Trees.{Value, act_on, saved, deduces, may_stand, v1, rest, trees}
-use Rattle.ath_grammar.proofs.Classes.{same_class}
+use Rattle.ath_grammar.specs.Trees.{Value, act_on, saved, deduces, v1, rest, trees}
 use Rattle.ath_grammar.proofs.Completes.{both_left, both_right}
 use Rattle.ath_grammar.proofs.ProperTypes.{Ty, plain, thing, fresh, wild, some_word, a_pattern, patterns, names, params, binders, a_phrase, closure, phrases, some_phrases, unbound, added, bindings, closures, some_closures, unmatched, clauses, unchecked, branches, a_directive, Tys, size, weight, wanted_kind, Fits, All, sub, le, Effect, effects, saves, signature, allowed, strip, on_some, or_else, made, called, alike, behind_binding, symbol_made, subs, holds, leads, acted, is_static, static, if_fits, keeps}
 use Rattle.ath_grammar.proofs.ProperActions.{Does, Each, do_all, saves_on, saved_weight}
@@ -404,7 +402,7 @@ module _ (w₀ : Sym) where
     sound is vs ts ws r spelled σ ρ τ g h f = g τ vs h
     sound is vs ts ws r (a_token {c = c} {is = js} {t = t} {ts = more} q k) σ ρ τ g h f =
         sound _ _ _ _ _ k (saves Free c ++ σ) ρ τ g
-        (in_all (saved t vs) (sym (append_assoc (saves Free c) σ τ)) (subst (λ (d : Class). All w₀ (saves Free d ++ (σ ++ τ)) (saved t vs)) (sym (same_class c t q)) (saves_on w₀ Free t vs (σ ++ τ) refl f.known_all.0 h)))
+        (in_all (saved t vs) (sym (append_assoc (saves Free c) σ τ)) (subst (λ (d : Class). All w₀ (saves Free d ++ (σ ++ τ)) (saved t vs)) (sym q) (saves_on w₀ Free t vs (σ ++ τ) refl f.known_all.0 h)))
         (fair_next t vs more f)
     sound is vs ts ws r (an_act {x = x} {is = js} k) σ ρ τ g h f = let m = g.1 τ vs h (light vs ts f) in sound _ _ _ _ _ k g.0 ρ τ g.2 m.0 (lighter vs (act_on x vs) ts m.1 f)
     sound is vs ts ws r (a_symbol {s = s} {x = x} {is = js} k) σ ρ τ g h f =

@@ -1,5 +1,5 @@
 -- The rows of the grammar keep to the types of their symbols.
-use Rattle.std.proofs.Common.{◌≡◌, Bool, true, false, ◌||◌, not, refl}
+use Rattle.std.proofs.Common.{◌≡◌, true, false, refl}
 use Rattle.ath_grammar.specs.declared.class.Class.{Class}
 use Rattle.ath_grammar.specs.declared.symbol.Symbol.{Symbol}
 use Rattle.ath_grammar.specs.declared.symbol.Symbol.TheVariants as S

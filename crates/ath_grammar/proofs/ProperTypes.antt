@@ -1,12 +1,12 @@
 -- What is known of values while a directive is read, where kinds are told apart: parts are proper and of kinds that were
 -- wanted, names differ where they must, and values weigh no more than the tokens that were read.
-use Rattle.std.proofs.Common.{◌≡◌, ℕ, ◌+◌, ◌≤◌, ◌<◌, List, [], ◌∷◌, ◌++◌, length, Bool, true, false, not, Option, Some, None, refl, if◌then◌else◌}
+use Rattle.std.proofs.Common.{◌≡◌, ℕ, ◌+◌, ◌≤◌, ◌<◌, List, [], ◌∷◌, ◌++◌, length, Bool, true, false, not, Option, Some, None, if◌then◌else◌}
 use Rattle.std.specs.List.{IsDistinct, list_any, filter}
 use Rattle.ath_sorts.specs.declared.sorts.Sym.{Sym}
-use Rattle.ath_syntax.specs.Fits.{IsSomeWord, same_name}
-use Rattle.ath_syntax.specs.Proper.{ProperPattern, ProperPatterns, Proper, ProperPhrases, ProperBindings, ProperClosures, ProperClauses, ProperBranches, ProperDirective, phrases_count, bindings_count, bound_names, clauses_count, clauses_patterns, branches_count, bound_kind, is_closure}
+use Rattle.ath_syntax.specs.Fits.{IsSomeWord}
+use Rattle.ath_syntax.specs.Proper.{ProperPattern, ProperPatterns, Proper, ProperPhrases, ProperBindings, ProperClosures, ProperClauses, ProperBranches, ProperDirective, phrases_count, bindings_count, clauses_count, clauses_patterns, branches_count, bound_kind, is_closure}
 use Rattle.ath_syntax.specs.Size.{pattern_size, patterns_size}
-use Rattle.ath_syntax.specs.Tree.{no_bindings, no_clauses, no_branches, is_deduction, phrases_deduce, clauses_deduce, branches_deduce}
+use Rattle.ath_syntax.specs.Tree.{no_bindings, no_clauses, no_branches, is_deduction, phrases_deduce, clauses_deduce, branches_deduce, same_name, bound_names}
 use Rattle.ath_grammar.specs.declared.class.Class.{Class}
 use Rattle.ath_grammar.specs.declared.class.Class.TheVariants as C
 use Rattle.ath_grammar.specs.declared.symbol.Symbol.{Symbol}
@@ -22,7 +22,7 @@ use Rattle.ath_grammar.specs.declared.item.Attr.{Attr}
 use Rattle.ath_grammar.specs.declared.item.Attr.TheVariants.{Is, Given}
 use Rattle.ath_grammar.specs.declared.item.Item.{Item}
 use Rattle.ath_grammar.specs.declared.item.Item.TheVariants as I
-use Rattle.ath_grammar.specs.Tables.{Row, none, take, skip, begin_as, both, same_kind, fits, bound, after, told, told_all}
+use Rattle.ath_grammar.specs.Tables.{Row, none, take, skip, begin_as, both, same_kind, fits, bound, after, told_all}
 use Rattle.ath_grammar.specs.Trees as V
 use Rattle.ath_grammar.specs.Trees.{Value, name_in, names_in, pattern_in, patterns_in, phrase_in, phrases_in, bindings_in, clauses_in, branches_in, binders_in, deduces, seen, v1, rest}
 

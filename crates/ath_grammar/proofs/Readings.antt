@@ -4,11 +4,11 @@ use Rattle.ath_syntax.specs.Tree.{DirectiveTree}
 use Rattle.ath_grammar.specs.declared.item.Item.{Item}
 use Rattle.ath_grammar.specs.Tokens.{Placed, next_class}
 use Rattle.ath_grammar.specs.Spells.{Spells}
-use Rattle.ath_grammar.specs.Machine.{Outcome, over, took, refused, first, advance, settle, taken, step, run}
+use Rattle.ath_grammar.specs.Machine.{Outcome, over, took, refused, first, advance, settle, taken, step}
 use Rattle.ath_grammar.specs.Grammar.{grammar}
 use Rattle.ath_grammar.specs.Trees.{Value, a_directive, trees}
-use Rattle.ath_grammar.specs.Directives.{directive_items, SpellsDirective, Begins, after}
-use Rattle.ath_grammar.specs.Laws.{SpelledInParts}
+use Rattle.ath_grammar.specs.Directives.{directive_items, SpellsDirective, Begins}
+use Rattle.ath_grammar.specs.Laws.{SpelledInParts, after}
 use Rattle.ath_grammar.proofs.Steps.{Ended, ended, Took, Meant, sound, complete, one, shorter}
 use Rattle.ath_grammar.proofs.Runs.{Config, run_more, Left, back, forth, unread as unread_run}
 use Rattle.ath_grammar.proofs.Completes.{Completes, completes, clean}

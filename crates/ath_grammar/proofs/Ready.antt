@@ -3,7 +3,7 @@ use Rattle.std.proofs.Common.{◌≡◌, ℕ, ◌+◌, ◌≤◌, List, [], ◌�
 use Rattle.std.specs.List.{list_any}
 use Rattle.std.proofs.lemmas.Bool.{ne_eqb}
 use Rattle.ath_sorts.specs.declared.sorts.Sym.{Sym}
-use Rattle.ath_syntax.specs.Fits.{same_name}
+use Rattle.ath_syntax.specs.Tree.{same_name}
 use Rattle.ath_grammar.specs.declared.class.WordClass.TheVariants.{Plain}
 use Rattle.ath_grammar.specs.declared.class.Opener.TheVariants as O
 use Rattle.ath_grammar.specs.declared.class.Mark.TheVariants as M
@@ -18,7 +18,7 @@ use Rattle.ath_grammar.specs.declared.action.Guard.{Guard}
 use Rattle.ath_grammar.specs.declared.action.Guard.TheVariants.{Free, New}
 use Rattle.ath_grammar.specs.declared.item.Want.{Want}
 use Rattle.ath_grammar.specs.declared.item.Want.TheVariants.{Any, Only}
-use Rattle.ath_grammar.specs.Tokens.{Placed, at, class_of, next_class}
+use Rattle.ath_grammar.specs.Tokens.{at, class_of}
 use Rattle.ath_grammar.specs.Tables.{skip}
 use Rattle.ath_grammar.specs.Grammar.{grammar}
 use Rattle.ath_grammar.specs.Trees.{Value, no_place, v1, seen, may_stand, trees}

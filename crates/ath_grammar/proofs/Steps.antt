@@ -1,13 +1,14 @@
 -- A step of the machine is what the table says, for any table and any values: by a token, and at the end of the text.
 use Rattle.std.proofs.Common.{◌≡◌, List, [], ◌∷◌, ◌++◌, length, ◌≤◌, Bool, true, false, Some, refl, arith}
 use Rattle.ath_grammar.specs.declared.class.Class.{Class}
-use Rattle.ath_grammar.specs.declared.action.Action.{Action}
 use Rattle.ath_grammar.specs.declared.action.Guard.{Guard}
 use Rattle.ath_grammar.specs.declared.item.Item.{Item}
 use Rattle.ath_grammar.specs.declared.item.Item.TheVariants as I
-use Rattle.ath_grammar.specs.Tokens.{Placed, is_class}
+use Rattle.ath_grammar.specs.Tokens.{Placed}
+use Rattle.ath_grammar.specs.Codes.{is_class}
 use Rattle.ath_grammar.specs.Tables.{Table, Start, no_start, begin, pass, both, Algebra, acts}
 use Rattle.ath_grammar.specs.Spells.{admits, starts, Spells, spelled, a_token, a_symbol, an_act, Starts, begun, passed}
+use Rattle.ath_grammar.proofs.Classes.{same_class, own_class}
 use Rattle.ath_grammar.specs.Machine.{Outcome, over, took, refused, first, if_taken, where_token, opens, also, on_over, advance, settle}
 
 -- nothing more is read, and these values are left
@@ -70,7 +71,7 @@ module _ (M : Algebra) (row : Table) (a : Bool) where
   token_sound (t ∷ ts) ws r c is vs h = go (is_class c t) refl h
     where
       go : (b : Bool) → is_class c t ≡ b → Meant (t ∷ ts) ws r (if_taken b (took true is (M.save t vs))) → Spells M row a (I.Token c ∷ is) vs (t ∷ ts) ws r
-      go true e h = a_token e h.1
+      go true e h = a_token (same_class c t e) h.1
       go false e h = absurd h
 
   begin_sound : (ts : List Placed) (ws : M.State) (r : List Placed) (f : Bool) (g : Guard) (js is : List Item) (vs : M.State) (k : M.State → Outcome M.State) → Meant ts ws r (on_over (opens M (first ts) is vs (begin f g js)) k) → Starts M row a (begin f g js) is vs ts ws r
@@ -110,7 +111,7 @@ module _ (M : Algebra) (row : Table) (a : Bool) where
 
   pub complete : (is : List Item) (vs : M.State) (ts : List Placed) (ws : M.State) (r : List Placed) → Spells M row a is vs ts ws r → Meant ts ws r (advance M row (first ts) is vs)
   complete [] vs ts ws r spelled = (admits_true a, ended)
-  complete (I.Token c ∷ is) vs ts ws r (a_token {t = t} {ts = more} e k) = taken_in t more ws r (is_class c t) (took true is (M.save t vs)) e (admits_true a, k)
+  complete (I.Token c ∷ is) vs ts ws r (a_token {t = t} {ts = more} e k) = taken_in t more ws r (is_class c t) (took true is (M.save t vs)) (own_class c t e) (admits_true a, k)
   complete (I.Act x ∷ is) vs ts ws r (an_act k) = complete is (M.act x vs) ts ws r k
   complete (I.Symbol s x ∷ is) vs [] ws r (a_symbol k) = starts_complete (starts M row s x vs []) is vs [] ws r (λ us. complete is us [] ws r) k
   complete (I.Symbol s x ∷ is) vs (t ∷ ts) ws r (a_symbol k) = starts_complete (starts M row s x vs (t ∷ ts)) is vs (t ∷ ts) ws r (λ us. complete is us (t ∷ ts) ws r) k

@@ -14,7 +14,6 @@ use Rattle.ath_grammar.specs.declared.item.Item.TheVariants as I
 use Rattle.ath_grammar.specs.Tokens.{Placed, class_of, next_class}
 use Rattle.ath_grammar.specs.Tables.{Row, none, take, skip, begin_as, Table, Start, no_start, begin, pass, both, fits, want_of, told, told_all, behind, by_token, start, Algebra, acts}
 use Rattle.ath_grammar.specs.Spells.{Spells, spelled, a_token, a_symbol, an_act, Starts, begun, passed}
-use Rattle.ath_grammar.proofs.Classes.{same_class}
 use Rattle.ath_grammar.proofs.Completes.{both_left, both_right}
 
 abbrev pub Types : Type 0
@@ -211,7 +210,7 @@ module _ (ok : ℕ → ℕ → Bool) (saved : Guard → Class → Types) (effect
       mutual
         pub left : (is : List Item) (vs : M.State) (ts : List Placed) (ws : M.State) (r : List Placed) → Spells M row a is vs ts ws r → (σ ρ τ : Types) → Fit (σ ++ τ) vs → outs is σ ≡ Some ρ → Fit (ρ ++ τ) ws
         left is vs ts ws r spelled σ ρ τ h e = subst (λ (x : Types). Fit (x ++ τ) vs) (some_is e) h
-        left is vs ts ws r (a_token {c = c} {is = js} {t = t} q k) σ ρ τ h e = left _ _ _ _ _ k (saved Free (class_of t) ++ σ) ρ τ (saves_on Free t vs σ τ (free t vs) h) (subst (λ (d : Class). outs js (saved Free d ++ σ) ≡ Some ρ) (same_class c t q) e)
+        left is vs ts ws r (a_token {c = c} {is = js} {t = t} q k) σ ρ τ h e = left _ _ _ _ _ k (saved Free (class_of t) ++ σ) ρ τ (saves_on Free t vs σ τ (free t vs) h) (subst (λ (d : Class). outs js (saved Free d ++ σ) ≡ Some ρ) q e)
         left is vs ts ws r (an_act {x = x} {is = js} k) σ ρ τ h e = let m = chain (made ok (effect x) σ) (λ α. outs js α) ρ e in left _ _ _ _ _ k m.0 ρ τ (does x vs σ m.0 τ h m.1) m.2
         left is vs ts ws r (a_symbol {s = s} {x = x} {is = js} k) σ ρ τ h e =
             let m = chain (of_symbol s σ) (λ α. outs js α) ρ e in

@@ -1,6 +1,6 @@
 -- The grammar's rows keep to what their symbols take and leave, so a directive is all that is left, and the sort variables
 -- that a `declare` lists differ.
-use Rattle.std.proofs.Common.{◌≡◌, ℕ, zero, suc, List, [], ◌∷◌, ◌++◌, length, Bool, true, false, not, ◌||◌, ◌⊎◌, inl, inr, if◌then◌else◌, Option, Some, None, refl, sym, ap, ◌∙◌, subst, append_assoc}
+use Rattle.std.proofs.Common.{◌≡◌, ℕ, zero, suc, List, [], ◌∷◌, ◌++◌, length, Bool, true, false, not, ◌||◌, ◌⊎◌, inl, inr, if◌then◌else◌, Some, None, refl, sym, ap, ◌∙◌, subst, append_assoc}
 use Rattle.std.specs.Prelude.{IfSome}
 use Rattle.std.specs.Bool.{nat_eq}
 use Rattle.std.specs.List.{list_any}
@@ -8,8 +8,7 @@ use Rattle.std.proofs.lemmas.Bool.{eqb-true}
 use Rattle.std.proofs.lemmas.List.Folds.{list_any-append}
 use Rattle.ath_sorts.specs.declared.sorts.Sym.{Sym}
 use Rattle.ath_sorts.specs.Validity.{AreDistinct}
-use Rattle.ath_syntax.specs.Fits.{same_name}
-use Rattle.ath_syntax.specs.Tree.{Statement, declare_is, DirectiveTree, directive_at}
+use Rattle.ath_syntax.specs.Tree.{Statement, declare_is, DirectiveTree, directive_at, same_name}
 use Rattle.ath_grammar.specs.declared.lexeme.Lexeme.TheVariants as L
 use Rattle.ath_grammar.specs.declared.class.Class.{Class}
 use Rattle.ath_grammar.specs.declared.class.Class.TheVariants as C

@@ -1,5 +1,5 @@
 -- Directives: which tokens spell which, and which begin one.
-use Rattle.std.specs.Prelude.{List, [], ◌∷◌, ◌++◌, Bool, Option, Some}
+use Rattle.std.specs.Prelude.{List, [], ◌∷◌, ◌++◌, Bool}
 use Rattle.ath_syntax.specs.Tree.{DirectiveTree}
 use Rattle.ath_grammar.specs.declared.symbol.Symbol.TheVariants.{Directive}
 use Rattle.ath_grammar.specs.declared.item.Want.TheVariants.{Any}
@@ -8,9 +8,8 @@ use Rattle.ath_grammar.specs.declared.item.Item.{Item}
 use Rattle.ath_grammar.specs.declared.item.Item.TheVariants as I
 use Rattle.ath_grammar.specs.Tokens.{Placed}
 use Rattle.ath_grammar.specs.Spells.{Spells}
-use Rattle.ath_grammar.specs.Machine.{run}
 use Rattle.ath_grammar.specs.Grammar.{grammar}
-use Rattle.ath_grammar.specs.Trees.{Value, a_directive, trees}
+use Rattle.ath_grammar.specs.Trees.{a_directive, trees}
 
 abbrev pub directive_items : List Item
 directive_items = I.Symbol Directive (Is Any) ∷ []
@@ -22,7 +21,3 @@ SpellsDirective apart ts d r = Spells trees grammar apart directive_items [] ts 
 -- some list of further tokens completes these to a directive
 abbrev pub Begins : Bool → List Placed → Type 0
 Begins apart front = (more : List Placed) × (d : DirectiveTree) × SpellsDirective apart (front ++ more) d []
-
--- what is still to be read behind tokens that begin a directive, and the values of what was read
-abbrev pub after : List Placed → Option (List Item × List Value)
-after ts = run trees grammar (Some (directive_items, [])) ts

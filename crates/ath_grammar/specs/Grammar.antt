@@ -1,7 +1,7 @@
 -- The grammar: a row for each symbol and class of the next token. E is an expression, D a deduction, F either; x is a name,
 -- S a sort, P a pattern, L a `lambda` or `method` form. A form whose keyword stands behind a bracket has its own pair.
 use Rattle.std.specs.Prelude.{List, [], ◌∷◌, true, false}
-use Rattle.ath_grammar.specs.declared.class.WordClass.TheVariants.{Plain, Dotted, Logical, Infix, Tilde, Back}
+use Rattle.ath_grammar.specs.declared.class.WordClass.TheVariants.{Plain, Dotted, Logical, Infix, Tilde}
 use Rattle.ath_grammar.specs.declared.class.Opener.{Opener}
 use Rattle.ath_grammar.specs.declared.class.Opener.TheVariants as O
 use Rattle.ath_grammar.specs.declared.class.DirectiveWord.TheVariants as D
@@ -19,7 +19,7 @@ use Rattle.ath_grammar.specs.declared.item.Rule.TheVariants.{Same, AsTop, Bound,
 use Rattle.ath_grammar.specs.declared.item.Attr.TheVariants.{Is, Given}
 use Rattle.ath_grammar.specs.declared.item.Item.{Item}
 use Rattle.ath_grammar.specs.declared.item.Item.TheVariants as I
-use Rattle.ath_grammar.specs.Tables.{Row, none, take, skip, begin_as, Table}
+use Rattle.ath_grammar.specs.Tables.{Row, none, take, skip, begin_as}
 
 -- tokens that have to come next
 abbrev mark : Mark → Item
@@ -78,9 +78,6 @@ as_any s is = begin_as Any s (Is Any) is
 
 abbrev as_expression : Symbol → List Item → Row
 as_expression s is = begin_as Any s (Is (Only false)) is
-
-abbrev as_deduction : Symbol → List Item → Row
-as_deduction s is = begin_as Any s (Is (Only true)) is
 
 abbrev as_same : Symbol → List Item → Row
 as_same s is = begin_as Any s (Given Same Any) is

@@ -1,8 +1,10 @@
 -- What the laws of the grammar say.
-use Rattle.std.specs.Prelude.{◌↔◌, List, ◌++◌, Bool}
+use Rattle.std.specs.Prelude.{◌↔◌, List, [], ◌++◌, Bool, Option, Some}
 use Rattle.ath_grammar.specs.declared.item.Item.{Item}
 use Rattle.ath_grammar.specs.Tokens.{Placed}
 use Rattle.ath_grammar.specs.Spells.{Spells}
+use Rattle.ath_grammar.specs.Machine.{run}
+use Rattle.ath_grammar.specs.Directives.{directive_items}
 use Rattle.ath_grammar.specs.Grammar.{grammar}
 use Rattle.ath_grammar.specs.Trees.{Value, trees}
 
@@ -12,3 +14,7 @@ InParts apart is js vs ts ws r = (us : List Value) × (mid : List Placed) × Spe
 
 abbrev pub SpelledInParts : Type 0
 SpelledInParts = (apart : Bool) (is js : List Item) (vs : List Value) (ts : List Placed) (ws : List Value) (r : List Placed) → Spells trees grammar apart (is ++ js) vs ts ws r ↔ InParts apart is js vs ts ws r
+
+-- what is still to be read behind tokens that begin a directive, and the values of what was read
+abbrev pub after : List Placed → Option (List Item × List Value)
+after ts = run trees grammar (Some (directive_items, [])) ts

@@ -1,3 +1,4 @@
+pub mod Codes
 pub mod Directives
 pub mod Grammar
 pub mod Known

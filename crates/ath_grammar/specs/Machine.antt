@@ -2,7 +2,8 @@
 use Rattle.std.specs.Prelude.{List, [], ◌∷◌, ◌++◌, Bool, true, false, Option, Some, None}
 use Rattle.ath_grammar.specs.declared.item.Item.{Item}
 use Rattle.ath_grammar.specs.declared.item.Item.TheVariants as I
-use Rattle.ath_grammar.specs.Tokens.{Placed, is_class}
+use Rattle.ath_grammar.specs.Tokens.{Placed}
+use Rattle.ath_grammar.specs.Codes.{is_class}
 use Rattle.ath_grammar.specs.Tables.{Table, Start, no_start, begin, pass, both, Algebra, acts}
 use Rattle.ath_grammar.specs.Spells.{starts}
 

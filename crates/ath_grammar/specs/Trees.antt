@@ -5,10 +5,8 @@ use Rattle.ath_sorts.specs.declared.sorts.Sym.{Sym}
 use Rattle.ath_syntax.specs.declared.place.Pos.{Pos}
 use Rattle.ath_syntax.specs.declared.node.SortText.{SortText}
 use Rattle.ath_syntax.specs.declared.node.SortText.TheVariants.{Name as sort_name, Var as sort_variable, Con as sort_con}
-use Rattle.ath_syntax.specs.Fits.{same_name}
-use Rattle.ath_syntax.specs.Proper.{bound_names}
-use Rattle.ath_syntax.specs.Tree.{Pattern, any_pattern, name_pattern, string_pattern, list_pattern, list_of_pattern, app_pattern, some_pattern, Patterns, no_patterns, more_patterns, Binder, Phrase, name_at, variable_at, string_at, list_at, ascribe_at, apply_at, call_at, lambda_at, method_at, let_at, letrec_at, match_at, check_at, try_at, seq_at, assume_at, absurd_at, pick_any_at, pick_witness_at, induct_at, cases_at, conclude_at, Phrases, no_phrases, more_phrases, Bindings, no_bindings, more_bindings, Clauses, no_clauses, more_clauses, Branches, no_branches, more_branches, no_else, else_phrase, is_deduction, phrases_deduce, clauses_deduce, branches_deduce, Statement, domain_is, datatype_is, declare_is, define_is, define_fun_is, assert_is, load_is, phrase_is, DirectiveTree, directive_at}
-use Rattle.ath_grammar.specs.declared.lexeme.Lexeme.{Lexeme}
+use Rattle.ath_syntax.specs.Places.{place}
+use Rattle.ath_syntax.specs.Tree.{Pattern, any_pattern, name_pattern, string_pattern, list_pattern, list_of_pattern, app_pattern, some_pattern, Patterns, no_patterns, more_patterns, Binder, Phrase, name_at, variable_at, string_at, list_at, ascribe_at, apply_at, call_at, lambda_at, method_at, let_at, letrec_at, match_at, check_at, try_at, seq_at, assume_at, absurd_at, pick_any_at, pick_witness_at, induct_at, cases_at, conclude_at, Phrases, no_phrases, more_phrases, Bindings, no_bindings, more_bindings, Clauses, no_clauses, more_clauses, Branches, no_branches, more_branches, no_else, else_phrase, is_deduction, phrases_deduce, clauses_deduce, branches_deduce, Statement, domain_is, datatype_is, declare_is, define_is, define_fun_is, assert_is, load_is, phrase_is, DirectiveTree, directive_at, same_name, bound_names}
 use Rattle.ath_grammar.specs.declared.lexeme.Lexeme.TheVariants as L
 use Rattle.ath_grammar.specs.declared.action.Guard.{Guard}
 use Rattle.ath_grammar.specs.declared.action.Guard.TheVariants.{Free, New}
@@ -153,31 +151,6 @@ abbrev pub add_branch : Branches → Phrase → Phrase → Branches
 add_branch no_branches e x = more_branches e x no_branches
 add_branch (more_branches c y bs) e x = more_branches c y (add_branch bs e x)
 
--- the place of a phrase
-abbrev pub place_of : Phrase → Pos
-place_of (name_at p n) = p
-place_of (variable_at p x k s) = p
-place_of (string_at p s) = p
-place_of (list_at p xs) = p
-place_of (ascribe_at p x s) = p
-place_of (apply_at p f xs) = p
-place_of (call_at p f xs) = p
-place_of (lambda_at p xs x) = p
-place_of (method_at p xs x) = p
-place_of (let_at p bs x) = p
-place_of (letrec_at p bs x) = p
-place_of (match_at p x cs) = p
-place_of (check_at p bs x) = p
-place_of (try_at p xs) = p
-place_of (seq_at p xs) = p
-place_of (assume_at p n x y) = p
-place_of (absurd_at p n x y) = p
-place_of (pick_any_at p ns x) = p
-place_of (pick_witness_at p n x y) = p
-place_of (induct_at p x cs) = p
-place_of (cases_at p x cs) = p
-place_of (conclude_at p n x y) = p
-
 -- the newest values, from the newest on, and what is beneath them
 abbrev pub v1 : List Value → Value
 v1 [] = label None
@@ -284,7 +257,7 @@ act_on A.DefineFun vs = says (v4 vs) (define_fun_is (name_in (v3 vs)) (names_in 
 act_on A.Assert vs = says (v3 vs) (assert_is (label_in (v2 vs)) false (phrase_in (v1 vs))) ∷ rest3 vs
 act_on A.AssertClosed vs = says (v3 vs) (assert_is (label_in (v2 vs)) true (phrase_in (v1 vs))) ∷ rest3 vs
 act_on A.Load vs = says (v2 vs) (load_is (text_in (v1 vs))) ∷ rest2 vs
-act_on A.Say vs = a_directive (directive_at (place_of (phrase_in (v1 vs))) (phrase_is (phrase_in (v1 vs)))) ∷ rest vs
+act_on A.Say vs = a_directive (directive_at (place (phrase_in (v1 vs))) (phrase_is (phrase_in (v1 vs)))) ∷ rest vs
 act_on A.SayAt vs = says (v2 vs) (phrase_is (phrase_in (v1 vs))) ∷ rest2 vs
 
 -- what a token leaves: its name, number or text, or the place of what it begins

@@ -2,7 +2,7 @@
 
 ghost use Rattle.std.specs.Prelude.{◌≡◌};
 ghost use Rattle.std.specs.Bool.{nat_eq};
-ghost use Rattle.ath_grammar.specs.Tokens.{code};
+ghost use Rattle.ath_grammar.specs.Codes.{code};
 
 /// What a word that can be a phrase is otherwise: a name without a dot, a name with dots, a reserved word that is no
 /// operator, an infix operator, `~`, or the mark `<==`.

@@ -9,8 +9,8 @@ ghost use Rattle.ath_grammar.specs.declared.item.Item.{Item as Part};
 ghost use Rattle.ath_grammar.specs.Known.{Known};
 ghost use Rattle.ath_grammar.specs.Tokens.{Placed};
 ghost use Rattle.ath_grammar.specs.Trees.{Value};
-ghost use Rattle.ath_grammar.specs.Laws.{SpelledInParts};
-ghost use Rattle.ath_grammar.specs.Directives.{SpellsDirective, Begins, after};
+ghost use Rattle.ath_grammar.specs.Laws.{SpelledInParts, after};
+ghost use Rattle.ath_grammar.specs.Directives.{SpellsDirective, Begins};
 
 /// The grammar is unambiguous: no list of tokens begins with two directives, whether kinds are told apart or not.
 #[tactic(auto, using(crate::proofs::Readings::no_two))]

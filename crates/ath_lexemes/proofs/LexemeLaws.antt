@@ -17,7 +17,8 @@ use Rattle.ath_tokens.specs.declared.tokens.Token.TheVariants.{Word as WordToken
 use Rattle.ath_lexemes.specs.declared.reserved.Reserved.{Reserved}
 use Rattle.ath_lexemes.specs.declared.reserved.Reserved.TheVariants.{Opener as OpenerWord, Directive as DirectiveWord, Mark as MarkWord, Own, Means, Wild as WildWord, SomeOf as SomeWord}
 use Rattle.ath_lexemes.specs.Reserved.{reserved_words}
-use Rattle.ath_lexemes.specs.Lexemes.{meant, reserved_or_plain, word_lexeme, text_of, IsNumbered, lexeme_of}
+use Rattle.ath_lexemes.specs.Lexemes.{meant, reserved_or_plain, word_lexeme}
+use Rattle.ath_lexemes.specs.Numbered.{text_of, IsNumbered, lexeme_of}
 
 text_at : (names : List (List ℕ)) (n : Sym) → n.0 < length names → slice_get names n.0 ≡ Some (text_of names n)
 text_at names n lt = slice_get-get_or names n.0 [] lt

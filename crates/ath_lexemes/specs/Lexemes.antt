@@ -1,5 +1,5 @@
 -- What tokens are to the grammar. Words are told apart by their texts, those of the table of names.
-use Rattle.std.specs.Prelude.{ℕ, ◌<◌, ◌==◌, List, [], length, Option, Some, None, if◌then◌else◌, slice_index_or}
+use Rattle.std.specs.Prelude.{ℕ, ◌==◌, List, Option, Some, None, if◌then◌else◌}
 use Rattle.std.specs.List.{list_any}
 use Rattle.std.specs.Map.{lookup}
 use Rattle.std.specs.Str.{bytes_eq}
@@ -8,9 +8,7 @@ use Rattle.ath_grammar.specs.declared.class.WordClass.TheVariants.{Plain, Dotted
 use Rattle.ath_grammar.specs.declared.class.Opener.TheVariants as O
 use Rattle.ath_grammar.specs.declared.class.Mark.TheVariants as M
 use Rattle.ath_grammar.specs.declared.lexeme.Lexeme.{Lexeme}
-use Rattle.ath_grammar.specs.declared.lexeme.Lexeme.TheVariants.{Word, Wild, SomeOf, Variable, SortVariable, Text, Opener, Directive, Mark}
-use Rattle.ath_tokens.specs.declared.tokens.Token.{Token}
-use Rattle.ath_tokens.specs.declared.tokens.Token.TheVariants.{Word as WordToken, Var as VarToken, SortVar as SortVarToken, Str as StrToken, Punct, Becomes as BecomesToken}
+use Rattle.ath_grammar.specs.declared.lexeme.Lexeme.TheVariants.{Word, Wild, SomeOf, Opener, Directive, Mark}
 use Rattle.ath_lexemes.specs.declared.reserved.Reserved.{Reserved}
 use Rattle.ath_lexemes.specs.declared.reserved.Reserved.TheVariants.{Opener as OpenerWord, Directive as DirectiveWord, Mark as MarkWord, Own, Means, Wild as WildWord, SomeOf as SomeWord}
 use Rattle.ath_lexemes.specs.Reserved.{reserved_words}
@@ -51,20 +49,3 @@ punct_lexeme b =
     else if b == 33 then Mark M.Bang
     else if b == 58 then Mark M.Colon
     else Mark M.Dot
-
--- the text of a name
-abbrev pub text_of : List (List ℕ) → Sym → List ℕ
-text_of names n = slice_index_or names n.0 []
-
--- a word's number is one of the table
-abbrev pub IsNumbered : List (List ℕ) → Token → Type 0
-IsNumbered names (WordToken n) = n.0 < length names
-IsNumbered names t = Unit {0}
-
-abbrev pub lexeme_of : List (List ℕ) → Token → Lexeme
-lexeme_of names (WordToken n) = word_lexeme (text_of names n) n
-lexeme_of names (VarToken n index) = Variable n index
-lexeme_of names (SortVarToken n) = SortVariable n
-lexeme_of names (StrToken bytes) = Text bytes
-lexeme_of names (Punct b) = punct_lexeme b
-lexeme_of names BecomesToken = Mark M.Becomes

@@ -1,3 +1,4 @@
 pub mod Level
 pub mod Lexemes
+pub mod Numbered
 pub mod Reserved

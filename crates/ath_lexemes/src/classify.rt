@@ -1,7 +1,8 @@
 // Tokens as the grammar tells them apart.
 
 ghost use Rattle.std.specs.Prelude.{◌≡◌};
-ghost use Rattle.ath_lexemes.specs.Lexemes.{IsNumbered, lexeme_of, punct_lexeme, word_lexeme, meant, plain_lexeme};
+ghost use Rattle.ath_lexemes.specs.Lexemes.{punct_lexeme, word_lexeme, meant, plain_lexeme};
+ghost use Rattle.ath_lexemes.specs.Numbered.{IsNumbered, lexeme_of};
 
 use crate::reserved::{Reserved, find_reserved};
 use ath_grammar::{Lexeme, Mark, Opener, WordClass};

@@ -6,7 +6,7 @@ ghost use Rattle.ath_names.specs.Names.{Grows, IsTable, first_names};
 ghost use Rattle.ath_sorts.specs.declared.sorts.Sym.{Sym as Number};
 ghost use Rattle.ath_syntax.specs.Fits.{IsSomeWord};
 ghost use Rattle.ath_tokens.specs.declared.tokens.Token.{Token as TokenOf};
-ghost use Rattle.ath_lexemes.specs.Lexemes.{IsNumbered, lexeme_of};
+ghost use Rattle.ath_lexemes.specs.Numbered.{IsNumbered, lexeme_of};
 
 /// A token stays what it is to the grammar when names join the table.
 #[tactic(auto, using(crate::proofs::LexemeLaws::lexeme_kept))]

@@ -11,13 +11,13 @@ use Rattle.ath_syntax.specs.declared.node.PatId.{PatId}
 use Rattle.ath_syntax.specs.declared.node.PhraseId.{PhraseId}
 use Rattle.ath_syntax.specs.declared.node.Form.{Form}
 use Rattle.ath_syntax.specs.Nodes.{Nodes}
-use Rattle.ath_syntax.specs.Fits.{IsPart, IsKind, IsBound, IsClosure, is_closure_form, ClausesFit, OtherwiseFits, otherwise_size, FitsForm, same_name, most}
+use Rattle.ath_syntax.specs.Fits.{IsPart, IsKind, IsBound, IsClosure, is_closure_form, ClausesFit, OtherwiseFits, otherwise_size, FitsForm, most}
 use Rattle.ath_syntax.specs.Fits.{is_closure as is_closure_node}
 use Rattle.ath_syntax.specs.Size.{patterns_size}
-use Rattle.ath_syntax.specs.Tree.{Phrase, Phrases, Bindings, Clauses, Branches, Otherwise, is_deduction, clauses_deduce, branches_deduce, phrases_deduce}
+use Rattle.ath_syntax.specs.Tree.{Phrase, Phrases, Bindings, Clauses, Branches, Otherwise, is_deduction, clauses_deduce, branches_deduce, phrases_deduce, same_name, bound_names}
 use Rattle.ath_syntax.specs.Stands.{IsForm, is_name, is_variable, is_string, is_list, is_ascribe, is_apply, is_call, is_lambda, is_method, is_let, is_letrec, is_match, is_check, is_try, is_seq, is_assume, is_absurd, is_pick_any, is_pick_witness, is_induct, is_cases, is_conclude, is_node, IsPhrase, is_phrase, ArePatterns, patterns_none, patterns_more, ArePhrases, phrases_none, phrases_more, AreBindings, bindings_none, bindings_more, AreClauses, clauses_none, clauses_more, AreBranches, branches_none, branches_more, IsOtherwise, otherwise_none, otherwise_some}
 use Rattle.ath_syntax.proofs.NodeLaws.{part_of, kind_of}
-use Rattle.ath_syntax.specs.Proper.{Proper, ProperPhrases, ProperBindings, ProperClosures, ProperClauses, ProperBranches, ProperOtherwise, phrases_count, bindings_count, clauses_count, branches_count, otherwise_count, bound_names, clauses_patterns, bound_kind, is_closure, IsOfKind}
+use Rattle.ath_syntax.specs.Proper.{Proper, ProperPhrases, ProperBindings, ProperClosures, ProperClauses, ProperBranches, ProperOtherwise, phrases_count, bindings_count, clauses_count, branches_count, otherwise_count, clauses_patterns, bound_kind, is_closure, IsOfKind}
 
 module _ (s : Nodes) where
   kind_is : (d : Bool) (i : PhraseId) (t : Phrase) → IsPhrase s i t → is_deduction t ≡ d → IsKind s d i

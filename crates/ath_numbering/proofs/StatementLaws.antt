@@ -41,5 +41,7 @@ module _ (s : Nodes) (tree : StatementTree) where
   pub phrase_stands : (i : PhraseId) (t : PhraseTree) → tree ≡ says.Phrase t → IsPhrase s i (phrase_of t) → IsStatement s (what.Phrase i) (statement_of tree)
   phrase_stands i t e h = by _ _ e (says_phrase h)
 
+pub ruleset statement_stands = (domain_stands, datatype_stands, declare_stands, define_stands, define_fun_stands, assert_stands, load_stands, phrase_stands)
+
 pub directive_stands : (s : Nodes) (tree : DirectiveTree) (w : What) → IsStatement s w (statement_of tree.statement) → IsDirective s (record { pos = tree.pos; what = w }) (directive_of tree)
 directive_stands s tree w h = is_directive h

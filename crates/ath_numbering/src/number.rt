@@ -1,7 +1,7 @@
 // Phrases become numbered nodes.
 
 ghost use Rattle.std.specs.Prelude.{Bool, IfOk, None, map, option_map};
-ghost use Rattle.ath_numbering.specs.Trees.{phrase_of, pattern_of, phrases_of, bindings_of, clauses_of, branches_of, otherwise_of};
+ghost use Rattle.ath_numbering.specs.Trees.{phrase_of, phrases_of, bindings_of, clauses_of, branches_of, otherwise_of};
 ghost use Rattle.ath_numbering.specs.Trees.{closure_at, hypothesis_at, clauses_at, let_phrase};
 ghost use Rattle.ath_syntax.specs.Proper.{Proper, ProperPhrases, ProperBindings, ProperClauses, ProperBranches};
 ghost use Rattle.ath_syntax.specs.Nodes.{Grows};

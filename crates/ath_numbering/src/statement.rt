@@ -27,7 +27,7 @@ pub fn number_directive(
     Ok(Directive { pos, what })
 }
 
-#[tactic(auto, using(crate::proofs::StatementLaws::domain_stands, crate::proofs::StatementLaws::datatype_stands, crate::proofs::StatementLaws::declare_stands, crate::proofs::StatementLaws::define_stands, crate::proofs::StatementLaws::define_fun_stands, crate::proofs::StatementLaws::assert_stands, crate::proofs::StatementLaws::load_stands, crate::proofs::StatementLaws::phrase_stands))]
+#[tactic(auto, using(crate::proofs::StatementLaws::statement_stands))]
 fn number_statement(
     alloc: Global,
     phrases: &mut Phrases,

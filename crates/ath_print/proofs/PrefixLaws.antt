@@ -11,7 +11,7 @@ use Rattle.ath_sorts.specs.declared.sorts.Sort.TheVariants.{rolls-Var, rolls-Con
 use Rattle.ath_sorts.specs.declared.sorts.Sort.TheFolds.{fold-roll-Sort}
 use Rattle.ath_sorts.specs.declared.signature.Symbol.{Symbol}
 use Rattle.ath_sorts.specs.Signature.{Signature}
-use Rattle.ath_sorts.specs.Unifiers.{same_sort}
+use Rattle.ath_sorts.specs.Order.{same_sort}
 use Rattle.ath_sorts.proofs.SameSorts.{same_sort-refl, same_sort-true}
 use Rattle.ath_trees.specs.declared.node.Var.{Var as Variable}
 use Rattle.ath_trees.specs.declared.node.TermId.{TermId}

@@ -2,7 +2,7 @@
 use Rattle.std.specs.Prelude.{◌≡◌, ◌<◌, map, length}
 use Rattle.std.specs.List.{All}
 use Rattle.ath_terms.specs.Trees.{Trees, term_at, sent_at}
-use Rattle.ath_env.specs.Values.{value_at, IsIn as IsValueIn}
+use Rattle.ath_env.specs.Stands.{value_at, IsIn as IsValueIn}
 use Rattle.ath_print.specs.declared.fault.Fault.{Fault}
 use Rattle.ath_print.specs.declared.fault.FaultArg.{FaultArg}
 use Rattle.ath_print.specs.declared.fault.FaultArg.TheVariants.{Sent, Term, Sort, Name, SortName, Number}

@@ -5,7 +5,7 @@ ghost use Rattle.std.specs.String.{string_bytes};
 ghost use Rattle.std.specs.List.{flat_map};
 ghost use Rattle.ath_terms.specs.SortsIn.{IsSortedIn};
 ghost use Rattle.ath_terms.specs.Trees.{term_at, sent_at};
-ghost use Rattle.ath_env.specs.Values.{IsIn, value_at};
+ghost use Rattle.ath_env.specs.Stands.{IsIn, value_at};
 ghost use Rattle.ath_print.specs.Printers.{spaced, GoesOn};
 ghost use Rattle.ath_print.specs.Prefix.{sent_printed, term_printed};
 ghost use Rattle.ath_print.specs.Lines.{term_text, printed, listed, shown_text, argument_printed, arguments_text, refusal_text, place_text, text_of_event, line_of};

@@ -8,7 +8,7 @@ use ath_env::Value;
 use ath_names::Names;
 use ath_sorts::{SVar, Signature, Sort, Sym};
 use ath_syntax::Pos;
-use ath_terms::{Store, TermNode};
+use ath_terms::Store;
 use ath_trees::{Conn, Quant, TermId, Var};
 use sqlite_items::Items;
 use std::alloc::{AllocError, Global};
@@ -142,23 +142,24 @@ fn sort_variables_of_one_line(rt: HostRuntime) -> Result<(), Fail> {
 
 /// Adds a variable whose sort is a variable.
 fn variable(
+    alloc: Global,
     sig: &Signature,
     store: &mut Store,
     name: Sym,
     index: u64,
     sort: SVar,
-) -> Result<TermId, AllocError>
+) -> Result<TermId, Fail>
     requires { IsSortedIn sig.now store.old }
     ensures inside { IfOk result (λ t. t.0 < length store.new.terms) }
     ensures sorted { IfOk result (λ t. IsSortedIn sig.now store.new) }
     ensures grows { Grows store.old store.new }
 {
-    let node = TermNode::Var(Var {
+    let v = Var {
         name,
         index,
         sort: Sort::Var(sort),
-    });
-    let t = store.add_term(node, Sort::Var(sort))?;
+    };
+    let t = store.var(alloc, &v)?;
     Ok(t)
 }
 
@@ -167,10 +168,10 @@ fn variables(rt: HostRuntime) -> Result<(), Fail> {
     let alloc = rt.alloc();
     let sig = Signature::new(alloc)?;
     let mut store = Store::new(alloc);
-    let t = variable(&sig, &mut store, A, 0, SVar::Made(7))?;
+    let t = variable(alloc, &sig, &mut store, A, 0, SVar::Made(7))?;
     let plain = Event::Shown(Value::Term(t));
     expect_line(&rt, &plain, &sig, &store, "Term: ?A:'S1\n")?;
-    let u = variable(&sig, &mut store, A, 3, SVar::Written(B))?;
+    let u = variable(alloc, &sig, &mut store, A, 3, SVar::Written(B))?;
     let indexed = Event::Shown(Value::Term(u));
     expect_line(&rt, &indexed, &sig, &store, "Term: ?A%3:'S1\n")
 }

@@ -1,5 +1,5 @@
 -- What the tokens that are read so far leave, and what the next one says of the grammar.
-use Rattle.std.proofs.Common.{◌≡◌, ℕ, zero, suc, ◌<◌, ◌≤◌, List, [], ◌∷◌, ◌++◌, length, take, Bool, true, false, Option, Some, None, refl, sym, ap, ◌∙◌, subst, arith}
+use Rattle.std.proofs.Common.{◌≡◌, ℕ, zero, suc, ◌≤◌, List, [], ◌∷◌, ◌++◌, take, Bool, true, false, Option, Some, None, refl, sym, ◌∙◌, subst}
 use Rattle.ath_syntax.specs.Tree.{DirectiveTree}
 use Rattle.ath_grammar.specs.declared.item.Item.{Item}
 use Rattle.ath_grammar.specs.declared.item.Item.TheVariants as I
@@ -9,11 +9,12 @@ use Rattle.ath_grammar.specs.Grammar.{grammar}
 use Rattle.ath_grammar.specs.declared.levels.Open.{Open}
 use Rattle.ath_grammar.specs.Levels.{take_class, take_all, depth}
 use Rattle.ath_grammar.specs.Machine.{Outcome, over, took, refused, advance, settle, first}
-use Rattle.ath_grammar.specs.Directives.{SpellsDirective, Begins, after}
+use Rattle.ath_grammar.specs.Directives.{SpellsDirective, Begins}
+use Rattle.ath_grammar.specs.Laws.{after}
 use Rattle.ath_grammar.proofs.Readings as read
 use Rattle.ath_builder.specs.Values.{directive_in}
 use Rattle.ath_tokens.specs.declared.tokens.LexKind.{LexKind}
-use Rattle.ath_reader.specs.Ahead.{Ahead, a_token, the_end, a_fault, ahead, Reads, reads_none, reads_more, Follows, follows_token, follows_end, follows_fault}
+use Rattle.ath_reader.specs.Ahead.{a_token, the_end, a_fault, ahead, Reads, reads_none, reads_more, follows_token, follows_end, follows_fault}
 use Rattle.ath_reader.specs.Reading.{Shallow, IsWhole, IsCut}
 use Rattle.ath_reader.specs.Steps.{IsNotOver}
 

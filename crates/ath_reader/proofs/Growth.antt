@@ -14,7 +14,8 @@ use Rattle.ath_names.proofs.NamesLaws.{Grows-refl}
 use Rattle.ath_tokens.specs.Cutting.{Cutting}
 use Rattle.ath_reader.specs.declared.reader.SyntaxError.{SyntaxError}
 use Rattle.ath_reader.specs.Ahead.{names_past}
-use Rattle.ath_reader.specs.Reading.{Reading, Progress, reached, refused, Front, Refuses, Wants, Answers}
+use Rattle.ath_reader.specs.Reading.{Reading, Progress, reached, refused, Front, Refuses}
+use Rattle.ath_reader.specs.Answering.{Wants, Answers}
 use Rattle.ath_reader.specs.Steps.{reading_of, NumbersTree}
 use Rattle.ath_reader.proofs.KnownTokens.{past_grows}
 

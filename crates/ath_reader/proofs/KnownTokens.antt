@@ -21,13 +21,13 @@ use Rattle.ath_tokens.specs.declared.tokens.LexKind.TheVariants.{BadUtf8}
 use Rattle.ath_tokens.specs.declared.tokens.Token.{Token}
 use Rattle.ath_tokens.specs.declared.tokens.Token.TheVariants.{Word, Var, SortVar, Str, Punct, Becomes}
 use Rattle.ath_tokens.specs.Bytes.{is_word_char, begins_part, is_at_part, is_punct}
-use Rattle.ath_tokens.specs.Cut.{gap_len, Cut, found, ended, fault, cut_at, next_of, place_of}
+use Rattle.ath_tokens.specs.Cut.{gap_len, Cut, found, ended, fault, cut_at, next_of, place_of, names_with}
 use Rattle.ath_tokens.specs.Laws.{IsLongest}
-use Rattle.ath_tokens.specs.Next.{names_with}
 use Rattle.ath_tokens.specs.Quoted.{Quoted, plain, closed, wrong, unclosed, quoted}
 use Rattle.ath_tokens.specs.Spelling.{Lexeme, word, var, sort_var, str, punct, becomes, is_part, is_index, number, goes_on_word, indexed, spells_var, str_of, spells_str, spells_punct, spells}
 use Rattle.ath_tokens.proofs.CutLaws.{found_is_longest}
-use Rattle.ath_lexemes.specs.Lexemes.{word_lexeme, text_of, IsNumbered, lexeme_of}
+use Rattle.ath_lexemes.specs.Lexemes.{word_lexeme}
+use Rattle.ath_lexemes.specs.Numbered.{text_of, IsNumbered, lexeme_of}
 use Rattle.ath_lexemes.proofs.LexemeLaws.{some_words, wild_is_one}
 use Rattle.ath_grammar.specs.Known.{IsKnown, Known}
 use Rattle.ath_reader.specs.Ahead.{number_in, seen_as, Ahead, a_token, the_end, a_fault, ahead, Reads, reads_none, reads_more, names_past}

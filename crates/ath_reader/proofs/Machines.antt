@@ -1,12 +1,13 @@
 -- The machine's stack, and kinds that fit, one after another.
-use Rattle.std.proofs.Common.{◌≡◌, ℕ, zero, suc, ◌-◌, ◌<◌, List, [], ◌∷◌, ◌++◌, Bool, true, false, Option, Some, None, refl, sym, ap, ◌∙◌, subst, append_assoc, arith}
+use Rattle.std.proofs.Common.{◌≡◌, ℕ, zero, suc, ◌-◌, ◌<◌, List, [], ◌∷◌, ◌++◌, Bool, true, false, Option, Some, None, refl, ap, append_assoc, arith}
 use Rattle.ath_grammar.specs.declared.item.Item.{Item}
 use Rattle.ath_grammar.specs.declared.item.Item.TheVariants as I
 use Rattle.ath_grammar.specs.declared.item.Attr.{Attr}
 use Rattle.ath_grammar.specs.declared.item.Want.{Want}
 use Rattle.ath_grammar.specs.declared.symbol.Symbol.{Symbol}
 use Rattle.ath_grammar.specs.declared.class.Class.{Class}
-use Rattle.ath_grammar.specs.Tokens.{Placed, is_class}
+use Rattle.ath_grammar.specs.Tokens.{Placed}
+use Rattle.ath_grammar.specs.Codes.{is_class}
 use Rattle.ath_grammar.specs.Grammar.{grammar}
 use Rattle.ath_grammar.specs.Trees.{Value, trees}
 use Rattle.ath_grammar.specs.Tables.{Table, Start, no_start, begin, pass, both, fits, told, told_all, want_of, behind, by_token, begin_as, Algebra}

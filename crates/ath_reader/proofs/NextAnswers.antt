@@ -5,7 +5,8 @@ use Rattle.ath_syntax.specs.Nodes as syntax
 use Rattle.ath_syntax.specs.Stands.{IsDirective}
 use Rattle.ath_syntax.specs.Tree.{DirectiveTree}
 use Rattle.ath_reader.specs.declared.reader.SyntaxError.{SyntaxError}
-use Rattle.ath_reader.specs.Reading.{reached, refused, Reading, Finds, Wants, Answers}
+use Rattle.ath_reader.specs.Reading.{reached, refused, Reading}
+use Rattle.ath_reader.specs.Answering.{Finds, Wants, Answers}
 use Rattle.ath_reader.specs.Next.{whole, ended, stopped, Spelled, IsNext}
 
 -- What a reader answers from a byte on, by what is next there: it is what `Answers` says.

@@ -6,14 +6,16 @@ use Rattle.ath_grammar.specs.Tokens.{Placed}
 use Rattle.ath_grammar.specs.declared.item.Item.{Item}
 use Rattle.ath_grammar.specs.Levels.{depth}
 use Rattle.ath_grammar.specs.Trees.{Value}
-use Rattle.ath_grammar.specs.Directives.{SpellsDirective, Begins, after}
+use Rattle.ath_grammar.specs.Directives.{SpellsDirective, Begins}
+use Rattle.ath_grammar.specs.Laws.{after}
 use Rattle.ath_grammar.proofs.Readings.{begins, unread, no_two}
 use Rattle.ath_reader.specs.declared.reader.SyntaxError.{SyntaxError}
 use Rattle.ath_reader.specs.declared.reader.SyntaxKind.{SyntaxKind}
 use Rattle.ath_reader.specs.declared.reader.SyntaxKind.TheVariants.{Lex, Unexpected, Unclosed, KindMix, TooDeep}
 use Rattle.ath_reader.specs.Ahead.{Ahead, a_token, the_end, a_fault, ahead, Reads, reads_none, reads_more, Follows, follows_token, follows_end, follows_fault, names_past}
 use Rattle.ath_reader.specs.Reading.{Reading, Front, IsWhole, IsCut, Fails, Refuses}
-use Rattle.ath_reader.specs.Next.{whole, ended, stopped, Spelled, OneNext}
+use Rattle.ath_reader.specs.Next.{whole, ended, stopped, Spelled}
+use Rattle.ath_reader.specs.Laws.{OneNext}
 use Rattle.ath_reader.proofs.Advance.{none_whole}
 use Rattle.ath_reader.proofs.KnownTokens.{same_token}
 

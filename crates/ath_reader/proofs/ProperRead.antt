@@ -1,14 +1,11 @@
 -- A directive that is read is proper, so that it can be numbered.
-use Rattle.std.proofs.Common.{◌≡◌, ℕ, ◌≤◌, List, [], ◌∷◌, ◌++◌, length, true, refl, sym, subst, arith}
+use Rattle.std.proofs.Common.{◌≡◌, ℕ, ◌≤◌, List, [], ◌∷◌, ◌++◌, length, true, refl, subst, arith}
 use Rattle.ath_syntax.specs.Tree.{DirectiveTree}
 use Rattle.ath_grammar.specs.Tokens.{Placed}
 use Rattle.ath_grammar.specs.Directives.{SpellsDirective}
 use Rattle.ath_names.specs.Names.{IsTable, Grows, first_names}
-use Rattle.ath_sorts.specs.declared.sorts.Sym.{Sym}
-use Rattle.ath_grammar.specs.Known.{Known}
 use Rattle.ath_syntax.specs.Proper.{ProperDirective}
 use Rattle.ath_grammar.proofs.ProperRead.{spelled_is_proper}
-use Rattle.ath_tokens.specs.declared.tokens.LexKind.{LexKind}
 use Rattle.ath_reader.specs.Ahead.{Ahead, a_token, the_end, a_fault, ahead, Reads, follows_token, follows_end, follows_fault}
 use Rattle.ath_reader.specs.Reading.{IsWhole}
 use Rattle.ath_reader.proofs.Carried.{reads_snoc}

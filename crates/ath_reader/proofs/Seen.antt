@@ -10,12 +10,12 @@ use Rattle.ath_names.proofs.NamesLaws.{text_of_number}
 use Rattle.ath_tokens.specs.declared.tokens.LexKind.{LexKind}
 use Rattle.ath_tokens.specs.declared.tokens.Token.{Token}
 use Rattle.ath_tokens.specs.declared.tokens.Token.TheVariants as token
-use Rattle.ath_tokens.specs.Cut.{Cut, found, ended, fault, next_of, place_of}
-use Rattle.ath_tokens.specs.Laws.{IsLongest}
-use Rattle.ath_tokens.specs.Next.{names_with, token_of}
+use Rattle.ath_tokens.specs.Cut.{Cut, found, ended, fault, next_of, place_of, names_with}
+use Rattle.ath_tokens.specs.Next.{token_of}
 use Rattle.ath_tokens.specs.Spelling.{Lexeme, word, var, sort_var, str, punct, becomes}
 use Rattle.ath_tokens.proofs.CutLaws.{found_is_longest}
-use Rattle.ath_lexemes.specs.Lexemes.{word_lexeme, text_of, lexeme_of}
+use Rattle.ath_lexemes.specs.Lexemes.{word_lexeme}
+use Rattle.ath_lexemes.specs.Numbered.{text_of, lexeme_of}
 use Rattle.ath_reader.specs.Ahead.{Ahead, a_token, the_end, a_fault, ahead, number_in, seen_as}
 
 number_known : (names : List (List ℕ)) (text : List ℕ) (n : ℕ) → number_of names text ≡ Some n → number_in names text ≡ record { 0 = n }

@@ -1,5 +1,5 @@
 -- From each byte on, something is next: the tokens are read on until they are whole, or one is refused.
-use Rattle.std.proofs.Common.{◌≡◌, ◌⊎◌, inl, inr, ℕ, zero, suc, ◌+◌, ◌<◌, ◌≤◌, nat_lt, List, [], ◌∷◌, ◌++◌, length, take, Bool, true, false, Option, Some, None, refl, sym, ◌∙◌, subst, arith}
+use Rattle.std.proofs.Common.{◌≡◌, ◌⊎◌, inl, inr, ℕ, zero, suc, ◌+◌, ◌<◌, ◌≤◌, nat_lt, List, [], ◌∷◌, ◌++◌, length, take, Bool, true, false, Some, None, refl, sym, ◌∙◌, arith}
 use Rattle.std.proofs.lemmas.Bool.Decides.{nat_tests}
 use Rattle.ath_syntax.specs.declared.place.Pos.{Pos}
 use Rattle.ath_syntax.specs.Tree.{DirectiveTree}
@@ -9,7 +9,8 @@ use Rattle.ath_grammar.specs.Trees.{Value, v1, trees}
 use Rattle.ath_grammar.specs.Grammar.{grammar}
 use Rattle.ath_grammar.specs.Levels.{depth}
 use Rattle.ath_grammar.specs.Machine.{Outcome, over, took, refused, advance, settle}
-use Rattle.ath_grammar.specs.Directives.{directive_items, after}
+use Rattle.ath_grammar.specs.Directives.{directive_items}
+use Rattle.ath_grammar.specs.Laws.{after}
 use Rattle.ath_builder.specs.Values.{directive_in}
 use Rattle.ath_tokens.specs.declared.tokens.LexKind.{LexKind}
 use Rattle.ath_tokens.specs.Cut.{place_of}
@@ -17,7 +18,8 @@ use Rattle.ath_reader.specs.declared.reader.SyntaxKind.{SyntaxKind}
 use Rattle.ath_reader.specs.declared.reader.SyntaxKind.TheVariants.{Lex, Unexpected, Unclosed, KindMix, TooDeep}
 use Rattle.ath_reader.specs.Ahead.{Ahead, a_token, the_end, a_fault, ahead, Reads, reads_none, reads_more, names_past}
 use Rattle.ath_reader.specs.Reading.{Reading, Shallow, Front, IsWhole, IsCut, place, Fails}
-use Rattle.ath_reader.specs.Next.{Next, whole, ended, stopped, IsNext, SomeNext}
+use Rattle.ath_reader.specs.Next.{Next, whole, ended, stopped, IsNext}
+use Rattle.ath_reader.specs.Laws.{SomeNext}
 use Rattle.ath_reader.proofs.KnownTokens.{reads_rise}
 use Rattle.ath_reader.specs.Steps.{IsNotOver}
 use Rattle.ath_reader.proofs.Carried.{reads_snoc, shallow_snoc, begins_here, over_whole, end_whole, fault_whole, end_cut, fault_cut, token_cut, refused_not_over, mixed_not_over, took_not_over, refused_here, behind_here, mixed, read_next, begins_next}

@@ -1,8 +1,5 @@
 -- What becomes of what was read, by what the machine does with what comes next.
-use Rattle.std.proofs.Common.{◌≡◌, ℕ, ◌<◌, ◌≤◌, List, Bool, true, false, Option, Some, None, Result, Ok, Err, ◌⊎◌, inl, inr, refl, sym, ap, ◌∙◌, subst}
-use Rattle.ath_syntax.specs.declared.place.Pos.{Pos}
-use Rattle.ath_grammar.specs.declared.lexeme.Lexeme.{Lexeme}
-use Rattle.ath_grammar.specs.declared.item.Item.{Item}
+use Rattle.std.proofs.Common.{◌≡◌, ℕ, ◌<◌, List, Bool, true, false, Result, Ok, Err, inl, inr, sym, ap, ◌∙◌, subst}
 use Rattle.ath_grammar.specs.declared.levels.Open.{Open}
 use Rattle.ath_grammar.specs.Tokens.{class_of_lexeme}
 use Rattle.ath_grammar.specs.Levels.{depth_of, take_class}

@@ -1,5 +1,5 @@
 -- What the tokens that are read so far carry, from turn to turn.
-use Rattle.std.proofs.Common.{◌≡◌, ℕ, zero, suc, take, ◌<◌, ◌≤◌, List, [], ◌∷◌, ◌++◌, length, Bool, true, false, Option, Some, None, Result, Ok, Err, ◌⊎◌, inl, inr, refl, sym, ap, ◌∙◌, subst, arith}
+use Rattle.std.proofs.Common.{◌≡◌, ℕ, zero, suc, take, ◌<◌, ◌≤◌, List, [], ◌∷◌, ◌++◌, length, Bool, true, false, Some, None, Ok, Err, inl, inr, refl, sym, ap, ◌∙◌, subst, arith}
 use Rattle.ath_syntax.specs.Tree.{DirectiveTree}
 use Rattle.ath_grammar.specs.declared.item.Item.{Item}
 use Rattle.ath_grammar.specs.declared.lexeme.Lexeme.{Lexeme}
@@ -9,7 +9,8 @@ use Rattle.ath_grammar.specs.Grammar.{grammar}
 use Rattle.ath_grammar.specs.declared.levels.Open.{Open}
 use Rattle.ath_grammar.specs.Levels.{take_class, take_all, depth_of, depth}
 use Rattle.ath_grammar.specs.Machine.{Outcome, over, took, refused as no_way, advance, settle}
-use Rattle.ath_grammar.specs.Directives.{directive_items, after}
+use Rattle.ath_grammar.specs.Directives.{directive_items}
+use Rattle.ath_grammar.specs.Laws.{after}
 use Rattle.ath_names.specs.Names.{Grows}
 use Rattle.ath_names.proofs.NamesLaws.{Grows-refl, Grows-trans}
 use Rattle.ath_tokens.specs.Cut.{place_of}
@@ -26,9 +27,9 @@ use Rattle.ath_reader.specs.declared.reader.Taken.TheVariants.{On, Whole}
 use Rattle.ath_reader.specs.declared.reader.SyntaxError.{SyntaxError}
 use Rattle.ath_reader.specs.declared.reader.SyntaxKind.{SyntaxKind}
 use Rattle.ath_reader.specs.declared.reader.SyntaxKind.TheVariants.{Lex, Unexpected, Unclosed, KindMix, TooDeep, Memory}
-use Rattle.ath_reader.specs.Ahead.{Ahead, a_token, the_end, a_fault, ahead, Reads, reads_none, reads_more, names_past}
+use Rattle.ath_reader.specs.Ahead.{Ahead, a_token, the_end, a_fault, ahead, Reads, reads_none, reads_more}
 use Rattle.ath_reader.specs.Runs.{left}
-use Rattle.ath_reader.specs.Reading.{Reading, Shallow, Front, IsWhole, IsCut, place, Fails, Refuses}
+use Rattle.ath_reader.specs.Reading.{Shallow, Front, IsWhole, IsCut, place, Fails}
 use Rattle.ath_reader.specs.Steps.{next_of, outcome, IsNotOver, Looks, Rejects, Turns, is_end, reading_of, ReadsTree}
 use Rattle.ath_reader.proofs.KnownTokens.{reads_grow}
 use Rattle.ath_reader.proofs.Carried.{reads_snoc, levels_snoc, shallow_snoc, begins_here, over_whole, end_whole, fault_whole, end_cut, fault_cut, token_cut, refused_not_over, mixed_not_over, took_not_over, refused_here, behind_here, mixed, read_next, begins_next}

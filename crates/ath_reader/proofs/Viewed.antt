@@ -1,10 +1,11 @@
 -- What a reader has come to, as its contracts see it.
-use Rattle.std.proofs.Common.{◌≡◌, ℕ, List, length, Option, Some, None, Ok, refl, ap}
+use Rattle.std.proofs.Common.{◌≡◌, ℕ, List, Option, Some, None, Ok, refl, ap}
 use Rattle.ath_syntax.specs.declared.directive.Directive.{Directive}
 use Rattle.ath_syntax.specs.Nodes as syntax
 use Rattle.ath_tokens.specs.Cutting.{Cutting}
 use Rattle.ath_reader.specs.declared.reader.SyntaxError.{SyntaxError}
-use Rattle.ath_reader.specs.Reading.{Reading, progress_of, Answers}
+use Rattle.ath_reader.specs.Reading.{Reading}
+use Rattle.ath_reader.specs.Answering.{progress_of, Answers}
 use Rattle.ath_reader.specs.Steps.{NumbersTree}
 
 abbrev pub read_view : Cutting → Option SyntaxError → Reading

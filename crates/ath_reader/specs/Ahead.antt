@@ -1,5 +1,5 @@
 -- What comes next in a text, to the grammar, and the tokens from a byte on.
-use Rattle.std.specs.Prelude.{◌≡◌, ℕ, List, [], ◌∷◌, Option, Some, None}
+use Rattle.std.specs.Prelude.{◌≡◌, ℕ, List, [], ◌∷◌, Some, None}
 use Rattle.ath_sorts.specs.declared.sorts.Sym.{Sym}
 use Rattle.ath_grammar.specs.declared.lexeme.Lexeme as grammar
 use Rattle.ath_grammar.specs.declared.lexeme.Lexeme.TheVariants.{Variable, SortVariable, Text, Mark}
@@ -7,8 +7,7 @@ use Rattle.ath_grammar.specs.declared.class.Mark.TheVariants.{Becomes}
 use Rattle.ath_grammar.specs.Tokens.{Placed, at}
 use Rattle.ath_names.specs.Names.{number_of}
 use Rattle.ath_tokens.specs.declared.tokens.LexKind.{LexKind}
-use Rattle.ath_tokens.specs.Cut.{found, ended, fault, next_of, place_of}
-use Rattle.ath_tokens.specs.Next.{names_with}
+use Rattle.ath_tokens.specs.Cut.{found, ended, fault, next_of, place_of, names_with}
 use Rattle.ath_tokens.specs.Spelling.{Lexeme, word, var, sort_var, str, punct, becomes}
 use Rattle.ath_lexemes.specs.Lexemes.{word_lexeme, punct_lexeme}
 

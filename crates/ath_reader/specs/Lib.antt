@@ -1,4 +1,6 @@
 pub mod Ahead
+pub mod Answering
+pub mod Laws
 pub mod Next
 pub mod Operators
 pub mod Reading

@@ -27,14 +27,6 @@ IsNext r names from (whole d to names') = Spelled r names from d to names'
 IsNext r names from ended = ahead r.file r.text names from ≡ the_end
 IsNext r names from (stopped e names') = Refuses r names from e names'
 
--- one thing alone is next
-abbrev pub OneNext : Type 0
-OneNext = (r : Reading) (names : List (List ℕ)) (from : ℕ) (a b : Next) → IsNext r names from a → IsNext r names from b → a ≡ b
-
--- from each byte on, something is next
-abbrev pub SomeNext : Type 0
-SomeNext = (r : Reading) (names : List (List ℕ)) (from : ℕ) → (n : Next) × IsNext r names from n
-
 -- the byte that is reached, where there is no refusal
 abbrev pub byte_reached : Progress → ℕ
 byte_reached (reached byte) = byte

@@ -1,5 +1,5 @@
 -- The code's stack, steps and what it sees, as the grammar's machine has them.
-use Rattle.std.specs.Prelude.{◌≡◌, List, [], ◌∷◌, Bool, Option, Some, None}
+use Rattle.std.specs.Prelude.{List, [], ◌∷◌, Bool, Option, Some, None}
 use Rattle.ath_grammar.specs.declared.item.Item.{Item}
 use Rattle.ath_grammar.specs.Tables.{Start, no_start, begin, pass, both}
 use Rattle.ath_grammar.specs.Machine.{Outcome, over, took, refused}

@@ -1,5 +1,5 @@
 -- The steps of a reader.
-use Rattle.std.specs.Prelude.{◌≡◌, ℕ, ◌<◌, ◌≤◌, List, [], length, Bool, true, false, Option, Some, None, Result, Ok, Err, ◌⊎◌}
+use Rattle.std.specs.Prelude.{◌≡◌, ℕ, ◌<◌, ◌≤◌, List, length, Bool, true, false, Option, Some, None, Result, Ok, Err, ◌⊎◌}
 use Rattle.ath_syntax.specs.declared.directive.Directive.{Directive}
 use Rattle.ath_syntax.specs.Nodes as syntax
 use Rattle.ath_numbering.specs.declared.tree.DirectiveTree.{DirectiveTree}
@@ -23,7 +23,8 @@ use Rattle.ath_reader.specs.declared.reader.Begun.{Begun}
 use Rattle.ath_reader.specs.Runs.{left, seen_of}
 use Rattle.ath_reader.specs.declared.reader.SyntaxKind.TheVariants.{Lex, Unexpected, Unclosed, KindMix, TooDeep, Memory}
 use Rattle.ath_reader.specs.Ahead.{Ahead, a_token, the_end, a_fault, ahead, names_past}
-use Rattle.ath_reader.specs.Reading.{Reading, reached, Front, IsWhole, place, Refuses, Finds, Wants}
+use Rattle.ath_reader.specs.Reading.{Reading, reached, Front, IsWhole, Refuses}
+use Rattle.ath_reader.specs.Answering.{Finds, Wants}
 
 abbrev pub next_of : Cutting → List (List ℕ) → Ahead
 next_of c names = ahead c.file c.text names c.at

@@ -1,7 +1,7 @@
 // Kinds of phrases: what is wanted, and what fits.
 
 ghost use Rattle.std.specs.Prelude.{◌≡◌};
-ghost use Rattle.ath_grammar.specs.Tables.{both as both_of, same_kind as same_kind_of, fits as fits_of, bound as bound_of, after as after_of, ruled as ruled_of, want_of as wanted_by, told as told_to};
+ghost use Rattle.ath_grammar.specs.Tables.{both as both_of, same_kind as same_kind_of, fits as fits_of, bound as bound_of, after as after_of, want_of as wanted_by, told as told_to};
 
 use ath_grammar::{Attr, Rule, Want};
 

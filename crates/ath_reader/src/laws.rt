@@ -1,6 +1,6 @@
 // The laws of what is next in a text.
 
-ghost use Rattle.ath_reader.specs.Next.{OneNext, SomeNext};
+ghost use Rattle.ath_reader.specs.Laws.{OneNext, SomeNext};
 
 /// From a byte on, with the names that are known there, one directive alone is next, or none, or one refusal alone.
 #[tactic(auto, using(crate::proofs::OneNext::one_next))]

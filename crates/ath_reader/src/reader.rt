@@ -4,7 +4,8 @@ ghost use Rattle.std.specs.Prelude.{◌≡◌, ◌≤◌, [], None, length, IfOk
 ghost use Rattle.ath_grammar.specs.Directives.{directive_items};
 ghost use Rattle.ath_names.specs.Names.{Grows as NamesGrow, first_names};
 ghost use Rattle.ath_syntax.specs.Nodes.{Grows};
-ghost use Rattle.ath_reader.specs.Reading.{Answers, reached};
+ghost use Rattle.ath_reader.specs.Reading.{reached};
+ghost use Rattle.ath_reader.specs.Answering.{Answers};
 ghost use Rattle.ath_reader.specs.Runs.{left};
 ghost use Rattle.ath_builder.specs.Values.{held};
 ghost use Rattle.ath_reader.specs.Steps.{Looks, refusal_of, Deepens, Turns, ReadsTree, NumbersTree, is_end};
@@ -60,7 +61,8 @@ pub struct Reader {
 
 impl Model for Reader {
     ghost use Rattle.std.specs.Prelude.{◌≡◌, ◌≤◌, length, None};
-    ghost use Rattle.ath_reader.specs.Reading.{Reading, progress_of};
+    ghost use Rattle.ath_reader.specs.Reading.{Reading};
+    ghost use Rattle.ath_reader.specs.Answering.{progress_of};
 
     ghost Value = { Reading };
 

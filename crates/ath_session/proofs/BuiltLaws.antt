@@ -21,7 +21,7 @@ use Rattle.ath_syntax.proofs.Growth.{part_of_kind}
 use Rattle.ath_syntax.proofs.NodeLaws.{node_at, part_of}
 use Rattle.ath_syntax.proofs.One.{one_phrase}
 use Rattle.ath_env.specs.LookUp.{text_of}
-use Rattle.ath_eval.specs.Evaluation.{place}
+use Rattle.ath_syntax.specs.Places.{place}
 use Rattle.ath_eval.proofs.Shapes.{form_here, place_of}
 use Rattle.ath_session.specs.Built as built
 use Rattle.ath_session.specs.BuiltParts.{AreParts, parts}

@@ -2,12 +2,13 @@
 use Rattle.std.proofs.Common.{◌≡◌, Bool, List, [], ◌∷◌, Option, Result, Ok, Err, IfOk, refl, sym, ◌∙◌, ap, subst, take}
 use Rattle.std.specs.Prelude.{IfSome, OnErr, OnOk}
 use Rattle.ath_sorts.specs.declared.sorts.Sym.{Sym}
-use Rattle.ath_sorts.specs.declared.signature.SigError.{SigError}
-use Rattle.ath_sorts.specs.declared.signature.SigError.TheVariants as kind
+use Rattle.ath_sorts.specs.declared.signature.Flaw.{Flaw}
 use Rattle.ath_sorts.specs.Signature.{Signature}
 use Rattle.ath_sorts.specs.Validity.{AreDistinct, IsValid}
 use Rattle.ath_syntax.specs.declared.place.Pos.{Pos}
 use Rattle.ath_syntax.specs.declared.node.SortText.{SortText}
+use Rattle.ath_declarations.specs.declared.declaring.DeclareError.{DeclareError}
+use Rattle.ath_declarations.specs.declared.declaring.DeclareError.TheVariants.{Flawed, Memory}
 use Rattle.ath_declarations.specs.Declarations.{domain_declared, declared}
 use Rattle.ath_declarations.specs.Laws.{Keeps, AreNarrow}
 use Rattle.ath_declarations.specs.Outcomes.{MatchChange, IsBegun}
@@ -39,7 +40,7 @@ grown_same old new e = subst (GrowsTo old) (sym e) (record { keeps = record { so
 pub grown_sorted : (old new : Signature) (s : Trees) → GrowsTo old new → IsSortedIn old s → IsSortedIn new s
 grown_sorted old new s g h = kept_store old new g.keeps (g.valid h.valid) s h
 
-pub domain_grown : (old new : Signature) (n : Sym) (vs : List Sym) (r : Result (Unit {0}) SigError) → MatchChange (domain_declared old n vs) old new r → OnErr r (new ≡ old) → GrowsTo old new
+pub domain_grown : (old new : Signature) (n : Sym) (vs : List Sym) (r : Result (Unit {0}) DeclareError) → MatchChange (domain_declared old n vs) old new r → OnErr r (new ≡ old) → GrowsTo old new
 domain_grown old new n vs (Ok u) h e = record { keeps = domain_keeps old new n vs h; valid = λ v. domain_valid old new n vs v h; narrow = λ w. domain_narrow old new n vs w h }
 domain_grown old new n vs (Err x) h e = grown_same old new e
 
@@ -47,35 +48,33 @@ module _ (list : Option (List Sym)) (args : List SortText) (result : SortText) (
   some_grown : (old new : Signature) (ns : List Sym) → declared old ns list args result ≡ Ok new → GrowsTo old new
   some_grown old new ns h = record { keeps = symbols_keep old new ns list args result h; valid = λ v. symbols_valid old new ns list args result v differ h; narrow = λ w. symbols_narrow old new ns list args result w h }
 
-  pub symbols_grown : (old new : Signature) (ns : List Sym) (r : Result (Unit {0}) SigError) → MatchChange (declared old ns list args result) old new r → OnErr r (IsBegun old new ns list args result) → GrowsTo old new
+  pub symbols_grown : (old new : Signature) (ns : List Sym) (r : Result (Unit {0}) DeclareError) → MatchChange (declared old ns list args result) old new r → OnErr r (IsBegun old new ns list args result) → GrowsTo old new
   symbols_grown old new ns (Ok u) h e = some_grown old new ns h
   symbols_grown old new ns (Err x) h e = some_grown old new (take e.count ns) e.after
 
 -- ---- the reply
-module _ (w u : World) (same : state_of u ≡ with_signature (state_of w) u.sig) (at : Pos) (event : Event) (unlisted : Bool) (outcome : Result Signature SigError) (r : Result (Unit {0}) SigError) (change : MatchChange outcome w.sig u.sig r) where
+pub same_flaw : (f g : Flaw) → ◌≡◌ {A = DeclareError} (Flawed f) (Flawed g) → f ≡ g
+same_flaw f g e = cc
+
+module _ (w u : World) (same : state_of u ≡ with_signature (state_of w) u.sig) (at : Pos) (event : Event) (outcome : Result Signature Flaw) (r : Result (Unit {0}) DeclareError) (change : MatchChange outcome w.sig u.sig r) where
   abbrev Declares : Reply → Type 0
-  Declares reply = IsReply u reply (declaring (state_of w) at event unlisted outcome)
+  Declares reply = IsReply u reply (declaring (state_of w) at event outcome)
 
   pub declared_reply : (reply : Reply) (x : told.Event) → r ≡ Ok tt → reply.events.items ≡ x ∷ [] → reply.next ≡ next.Go → IsEventIn u.store x → event_of u.store x ≡ event → Declares reply
   declared_reply reply x ok e n k is =
       let h : outcome ≡ Ok u.sig = subst (MatchChange outcome w.sig u.sig) ok change in
-      reply_as u reply (declaring (state_of w) at event unlisted (Ok u.sig)) _ (ap (declaring (state_of w) at event unlisted) (sym h))
+      reply_as u reply (declaring (state_of w) at event (Ok u.sig)) _ (ap (declaring (state_of w) at event) (sym h))
       (record { events = one_event u.store reply.events.items x event e k is; next = ap next_of n; state = same })
 
-  refused_as : (reply : Reply) (e : SigError) → outcome ≡ Err e → u.sig ≡ w.sig → IsReply u reply (refusing (state_of u) at (declaration_refusal unlisted e)) → Declares reply
-  refused_as reply e h sig k =
+  refused_as : (reply : Reply) (f : Flaw) → outcome ≡ Err f → u.sig ≡ w.sig → IsReply u reply (refusing (state_of u) at (declaration_refusal f)) → Declares reply
+  refused_as reply f h sig k =
       let s : state_of u ≡ state_of w = same ∙ ap (with_signature (state_of w)) sig in
-      reply_as u reply _ _ (ap (λ (st : State). refusing st at (declaration_refusal unlisted e)) s ∙ ap (declaring (state_of w) at event unlisted) (sym h)) k
+      reply_as u reply _ _ (ap (λ (st : State). refusing st at (declaration_refusal f)) s ∙ ap (declaring (state_of w) at event) (sym h)) k
 
-  pub refused_reply : {E : Type 0} (a : Result Reply E) (e : SigError) → r ≡ Err e → (e ≡ kind.Memory → OnOk a ⊥) → IfOk a (λ reply. IsReply u reply (refusing (state_of u) at (declaration_refusal unlisted e))) → IfOk a Declares
+  pub refused_reply : {E : Type 0} (a : Result Reply E) (e : DeclareError) → r ≡ Err e → (e ≡ Memory → OnOk a ⊥) → ((f : Flaw) → e ≡ Flawed f → IfOk a (λ reply. IsReply u reply (refusing (state_of u) at (declaration_refusal f)))) → IfOk a Declares
   refused_reply (Err m) e is wanted h = tt
   refused_reply (Ok reply) e is wanted h = by e (subst (MatchChange outcome w.sig u.sig) is change) wanted h
     where
-      by : (e : SigError) → MatchChange outcome w.sig u.sig (Err e) → (e ≡ kind.Memory → ⊥) → IsReply u reply (refusing (state_of u) at (declaration_refusal unlisted e)) → Declares reply
-      by (kind.Redeclared n) c m k = refused_as reply (kind.Redeclared n) c.0 c.1 k
-      by (kind.TooWide n) c m k = refused_as reply (kind.TooWide n) c.0 c.1 k
-      by (kind.UnknownSort n) c m k = refused_as reply (kind.UnknownSort n) c.0 c.1 k
-      by (kind.Arity n) c m k = refused_as reply (kind.Arity n) c.0 c.1 k
-      by kind.SortTooLarge c m k = refused_as reply kind.SortTooLarge c.0 c.1 k
-      by (kind.LooseParam n) c m k = refused_as reply (kind.LooseParam n) c.0 c.1 k
-      by kind.Memory c m k = absurd (m refl)
+      by : (e : DeclareError) → MatchChange outcome w.sig u.sig (Err e) → (e ≡ Memory → ⊥) → ((f : Flaw) → e ≡ Flawed f → IsReply u reply (refusing (state_of u) at (declaration_refusal f))) → Declares reply
+      by (Flawed f) c m k = refused_as reply f c.0 c.1 (k f refl)
+      by Memory c m k = absurd (m refl)

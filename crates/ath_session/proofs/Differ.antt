@@ -10,7 +10,8 @@ use Rattle.ath_grammar.specs.Tokens.{Placed}
 use Rattle.ath_grammar.proofs.TypedTable.{StatementDiffers, DirectiveDiffers, declared_differ}
 use Rattle.ath_reader.specs.declared.reader.SyntaxError.{SyntaxError}
 use Rattle.ath_reader.specs.Ahead.{Ahead, a_token, the_end, a_fault, Follows, follows_token, follows_end, follows_fault}
-use Rattle.ath_reader.specs.Reading.{Reading, Progress, reached, refused, IsWhole, Answers}
+use Rattle.ath_reader.specs.Reading.{Reading, Progress, reached, refused, IsWhole}
+use Rattle.ath_reader.specs.Answering.{Answers}
 use Rattle.ath_session.specs.Session.{ParamsDiffer}
 
 -- tokens that may stand behind what comes next

@@ -10,6 +10,7 @@ pub mod ReplyLaws
 pub mod RunLaws
 pub mod SessionLaws
 pub mod Sound
+pub mod SoundLaws
 pub mod StatementLaws
 pub mod TellingLaws
 pub mod TopLaws

@@ -21,7 +21,7 @@ new_sorted sig s e f = subst (λ (g : Signature). IsSortedIn g s) (sym e) (subst
 }))
 
 pub new_roomy : (fuel : ℕ) (fresh : Fresh) → fuel ≤ 1000000000 → fresh ≡ record { var = 1; sort = 1 } → IsRoomy fuel fresh
-new_roomy fuel fresh h e = omega (arith, h, ap (λ (f : Fresh). f.sort) e)
+new_roomy fuel fresh h e = (omega (arith, h, ap (λ (f : Fresh). f.var) e), omega (arith, h, ap (λ (f : Fresh). f.sort) e))
 
 truth_narrow : (n f : Sym) (o : Option Symbol) (d : Symbol) → (o ≡ Some d → length d.params ≤ 64) → cond (n.0 == f.0) (Some (truth_value n)) o ≡ Some d → length d.params ≤ 64
 truth_narrow n f o d rest e = by (n.0 == f.0) e

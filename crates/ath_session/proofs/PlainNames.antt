@@ -18,8 +18,7 @@ use Rattle.ath_names.specs.Names.{number_of, interned, numbered, fixed_words, fi
 use Rattle.ath_names.proofs.NamesLaws.{Grows-trans, Grows-interned}
 use Rattle.ath_tokens.specs.declared.tokens.LexKind.TheVariants.{BadUtf8}
 use Rattle.ath_tokens.specs.Bytes.{is_word_char, begins_part, is_at_part, is_punct}
-use Rattle.ath_tokens.specs.Cut.{gap_len, Cut, found, ended, fault, cut_at, next_of, place_of}
-use Rattle.ath_tokens.specs.Next.{names_with}
+use Rattle.ath_tokens.specs.Cut.{gap_len, Cut, found, ended, fault, cut_at, next_of, place_of, names_with}
 use Rattle.ath_tokens.specs.Quoted.{Quoted, plain as outside, closed, wrong, unclosed, quoted}
 use Rattle.ath_tokens.specs.Spelling.{Lexeme, word, var, sort_var, str, punct, becomes, is_part, is_index, number, goes_on_word, indexed, spells_var, str_of, spells_str, spells_punct, spells}
 use Rattle.ath_tokens.proofs.CutLaws.{found_is_longest}

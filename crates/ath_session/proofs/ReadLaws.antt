@@ -14,8 +14,10 @@ use Rattle.ath_reader.specs.declared.reader.SyntaxError.{SyntaxError}
 use Rattle.ath_reader.specs.declared.reader.SyntaxKind.{SyntaxKind}
 use Rattle.ath_reader.specs.declared.reader.SyntaxKind.TheVariants.{Memory as NoMemory}
 use Rattle.ath_reader.specs.Ahead.{Ahead, a_token, the_end, a_fault}
-use Rattle.ath_reader.specs.Reading.{Reading, Progress, reached, Fails, Wants, Answers}
-use Rattle.ath_reader.specs.Next.{Next, whole, ended, stopped, IsNext, OneNext, byte_reached}
+use Rattle.ath_reader.specs.Reading.{Reading, Progress, reached, Fails}
+use Rattle.ath_reader.specs.Answering.{Wants, Answers}
+use Rattle.ath_reader.specs.Next.{Next, whole, ended, stopped, IsNext, byte_reached}
+use Rattle.ath_reader.specs.Laws.{OneNext}
 use Rattle.ath_grammar.specs.Tokens.{Placed}
 use Rattle.ath_print.specs.Events.{refused}
 use Rattle.ath_eval.specs.Outcomes.{refusal}

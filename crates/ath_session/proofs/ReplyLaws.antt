@@ -13,7 +13,8 @@ use Rattle.ath_syntax.specs.Tree.{Phrase, Statement, domain_is, declare_is, asse
 use Rattle.ath_syntax.specs.Stands.{IsPhrase, IsStatement, IsDirective}
 use Rattle.ath_trees.specs.declared.node.SentId.{SentId}
 use Rattle.ath_terms.specs.Trees.{sent_at}
-use Rattle.ath_env.specs.Values.{value_at, sentence_of}
+use Rattle.ath_env.specs.Values.{sentence_of}
+use Rattle.ath_env.specs.Stands.{value_at}
 use Rattle.ath_env.specs.declared.value.Value as coded
 use Rattle.ath_print.specs.declared.fault.Fault.{Fault}
 use Rattle.ath_print.specs.declared.fault.FaultKind.TheVariants.{NotBuilt}
@@ -22,12 +23,13 @@ use Rattle.ath_print.specs.Stands.{refusal_of}
 use Rattle.ath_eval.specs.declared.world.World.{World}
 use Rattle.ath_eval.specs.declared.world.Outcome as code
 use Rattle.ath_eval.specs.declared.world.Outcome.TheVariants as out
-use Rattle.ath_eval.specs.Evaluation.{outcome_of, place}
+use Rattle.ath_eval.specs.Evaluation.{outcome_of}
+use Rattle.ath_syntax.specs.Places.{place}
 use Rattle.ath_eval.specs.World.{Evaluates, IsOutcome}
 use Rattle.ath_declarations.specs.Declarations as after
-use Rattle.ath_declarations.specs.Unlisted.{is_unlisted}
 use Rattle.ath_print.specs.Events as events
-use Rattle.ath_session.specs.State.{context, joining}
+use Rattle.ath_session.specs.State.{context, environment, left, joining}
+use Rattle.ath_base.specs.declared.entry.Origin.TheVariants.{Concluded}
 use Rattle.ath_session.specs.Built as built
 use Rattle.ath_session.specs.Directives.{effect, unless_unbuilt, done, declaring, asserting_sentence, asserting, showing, refusing, loading}
 use Rattle.ath_session.specs.declared.session.Next.TheVariants as next
@@ -38,15 +40,15 @@ use Rattle.ath_session.proofs.SessionLaws.{reply_as, refused_plainly, value_asse
 use Rattle.ath_session.proofs.StatementLaws.{domain_here, declare_here, assert_here, load_here, phrase_here, other_here, statement_here}
 
 -- ---- a phrase that was evaluated
-module _ (w v : World) (moved : Evaluates w v) (i : PhraseId) (o : code.Outcome) (says : (x : Phrase) → IsPhrase w.phrases i x → IsOutcome v.store v.fuel v.fresh o (outcome_of (context (state_of w)) x w.fuel w.fresh)) where
+module _ (w v : World) (moved : Evaluates w v) (i : PhraseId) (o : code.Outcome) (says : (x : Phrase) → IsPhrase w.phrases i x → IsOutcome v.store v.fuel v.fresh o (outcome_of (context (state_of w)) (environment (state_of w)) x (left (state_of w)))) where
   abbrev Asserts : World → Reply → Type 0
-  Asserts u r = (x : Phrase) → IsPhrase w.phrases i x → IsReply u r (asserting (state_of w) (place x) (outcome_of (context (state_of w)) x w.fuel w.fresh))
+  Asserts u r = (x : Phrase) → IsPhrase w.phrases i x → IsReply u r (asserting (state_of w) (place x) (outcome_of (context (state_of w)) (environment (state_of w)) x (left (state_of w))))
 
   abbrev Shows : World → Reply → Type 0
-  Shows u r = (x : Phrase) → IsPhrase w.phrases i x → IsReply u r (showing (state_of w) (outcome_of (context (state_of w)) x w.fuel w.fresh))
+  Shows u r = (x : Phrase) → IsPhrase w.phrases i x → IsReply u r (showing (state_of w) (outcome_of (context (state_of w)) (environment (state_of w)) x (left (state_of w))))
 
-  outcome_is : (k : code.Outcome) → o ≡ k → (x : Phrase) → IsPhrase w.phrases i x → IsOutcome v.store v.fuel v.fresh k (outcome_of (context (state_of w)) x w.fuel w.fresh)
-  outcome_is k e x h = subst (λ (y : code.Outcome). IsOutcome v.store v.fuel v.fresh y (outcome_of (context (state_of w)) x w.fuel w.fresh)) e (says x h)
+  outcome_is : (k : code.Outcome) → o ≡ k → (x : Phrase) → IsPhrase w.phrases i x → IsOutcome v.store v.fuel v.fresh k (outcome_of (context (state_of w)) (environment (state_of w)) x (left (state_of w)))
+  outcome_is k e x h = subst (λ (y : code.Outcome). IsOutcome v.store v.fuel v.fresh y (outcome_of (context (state_of w)) (environment (state_of w)) x (left (state_of w)))) e (says x h)
 
   module _ {E : Type 0} where
     pub value_assertion : (u : World) (a : Result Reply E) (n : Node) (x : coded.Value) → slice_get w.phrases.phrases i.0 ≡ Some n → o ≡ out.Value x → IfOk a (λ r. IsReply u r (asserting_sentence (state_of v) n.pos (sentence_of (value_at v.store x)))) → IfOk a (Asserts u)
@@ -77,7 +79,7 @@ module _ (w v : World) (moved : Evaluates w v) (i : PhraseId) (o : code.Outcome)
     spent_showing (Ok r) at e h = λ y k. spent_shown w v moved r at _ (outcome_is (out.Exhausted at) e y k) h.0 h.1
     spent_showing (Err m) at e h = tt
 
-  pub theorem_showing : (u : World) (r : Reply) (p : SentId) → o ≡ out.Theorem p → u.store ≡ v.store → state_of u ≡ joining (state_of v) (sent_at v.store.sents p.0) → r.events.items ≡ telling.Theorem p ∷ [] → r.next ≡ next.Go → Shows u r
+  pub theorem_showing : (u : World) (r : Reply) (p : SentId) → o ≡ out.Theorem p → u.store ≡ v.store → state_of u ≡ joining (state_of v) Concluded (sent_at v.store.sents p.0) → r.events.items ≡ telling.Theorem p ∷ [] → r.next ≡ next.Go → Shows u r
   theorem_showing u r p e m j a n = λ y k. theorem_shown w v moved u r p _ (outcome_is (out.Theorem p) e y k) m j a n
 
 -- ---- statements
@@ -89,15 +91,15 @@ module _ (w u : World) (what : What) (at : Pos) where
   done_as r x y e h = reply_as u r _ _ (ap (done (state_of w) at) (sym e)) h
 
   module _ {E : Type 0} where
-    pub domain_tells : (a : Result Reply E) (n : Sym) (ms vs : List Sym) → what ≡ Domain n vs → ms ≡ vs → IfOk a (λ r. IsReply u r (declaring (state_of w) at (events.domain_added n) false (after.domain_declared w.sig n ms))) → IfOk a Tells
-    domain_tells (Ok r) n ms vs e m h = λ x k. done_as r x (domain_is n vs) (domain_here w.phrases what x k n vs e) (subst (λ (ms : List Sym). IsReply u r (declaring (state_of w) at (events.domain_added n) false (after.domain_declared w.sig n ms))) m h)
+    pub domain_tells : (a : Result Reply E) (n : Sym) (ms vs : List Sym) → what ≡ Domain n vs → ms ≡ vs → IfOk a (λ r. IsReply u r (declaring (state_of w) at (events.domain_added n) (after.domain_declared w.sig n ms))) → IfOk a Tells
+    domain_tells (Ok r) n ms vs e m h = λ x k. done_as r x (domain_is n vs) (domain_here w.phrases what x k n vs e) (subst (λ (ms : List Sym). IsReply u r (declaring (state_of w) at (events.domain_added n) (after.domain_declared w.sig n ms))) m h)
     domain_tells (Err k) n ms vs e m h = tt
 
-    pub declare_tells : (a : Result Reply E) (ms ns : List Sym) (ps : Option (List Sym)) (ts os : List SortText) (s : SortText) → what ≡ Declare ns ps os s → ms ≡ ns → ts ≡ os → IfOk a (λ r. IsReply u r (declaring (state_of w) at (events.symbols_added ms) (is_unlisted w.sig ps ts s) (after.declared w.sig ms ps ts s))) → IfOk a Tells
-    declare_tells (Ok r) ms ns ps ts os s e m t h = λ x k. done_as r x (declare_is ns ps os s) (declare_here w.phrases what x k ns ps os s e) (reply_as u r _ _ (λ i. declaring (state_of w) at (events.symbols_added (m i)) (is_unlisted w.sig ps (t i) s) (after.declared w.sig (m i) ps (t i) s)) h)
+    pub declare_tells : (a : Result Reply E) (ms ns : List Sym) (ps : Option (List Sym)) (ts os : List SortText) (s : SortText) → what ≡ Declare ns ps os s → ms ≡ ns → ts ≡ os → IfOk a (λ r. IsReply u r (declaring (state_of w) at (events.symbols_added ms) (after.declared w.sig ms ps ts s))) → IfOk a Tells
+    declare_tells (Ok r) ms ns ps ts os s e m t h = λ x k. done_as r x (declare_is ns ps os s) (declare_here w.phrases what x k ns ps os s e) (reply_as u r _ _ (λ i. declaring (state_of w) at (events.symbols_added (m i)) (after.declared w.sig (m i) ps (t i) s)) h)
     declare_tells (Err k) ms ns ps ts os s e m t h = tt
 
-    pub assert_tells : (a : Result Reply E) (n : Option Sym) (closed : Bool) (i : PhraseId) → what ≡ Assert n closed i → IfOk a (λ r. (x : Phrase) → IsPhrase w.phrases i x → IsReply u r (asserting (state_of w) (place x) (outcome_of (context (state_of w)) x w.fuel w.fresh))) → IfOk a Tells
+    pub assert_tells : (a : Result Reply E) (n : Option Sym) (closed : Bool) (i : PhraseId) → what ≡ Assert n closed i → IfOk a (λ r. (x : Phrase) → IsPhrase w.phrases i x → IsReply u r (asserting (state_of w) (place x) (outcome_of (context (state_of w)) (environment (state_of w)) x (left (state_of w))))) → IfOk a Tells
     assert_tells (Ok r) n closed i e h = λ x k. let p = assert_here w.phrases what x k n closed i e in done_as r x (assert_is n closed p.0) p.2 (h p.0 p.1)
     assert_tells (Err k) n closed i e h = tt
 
@@ -105,7 +107,7 @@ module _ (w u : World) (what : What) (at : Pos) where
     load_tells (Ok r) b c e m h = λ x k. done_as r x (load_is b) (load_here w.phrases what x k b e) (subst (λ (c : List ℕ). IsReply u r (loading (state_of w) at c)) m h)
     load_tells (Err k) b c e m h = tt
 
-    pub phrase_tells : (a : Result Reply E) (i : PhraseId) → what ≡ Plain i → IfOk a (λ r. (x : Phrase) → IsPhrase w.phrases i x → IsReply u r (showing (state_of w) (outcome_of (context (state_of w)) x w.fuel w.fresh))) → IfOk a Tells
+    pub phrase_tells : (a : Result Reply E) (i : PhraseId) → what ≡ Plain i → IfOk a (λ r. (x : Phrase) → IsPhrase w.phrases i x → IsReply u r (showing (state_of w) (outcome_of (context (state_of w)) (environment (state_of w)) x (left (state_of w))))) → IfOk a Tells
     phrase_tells (Ok r) i e h = λ x k. let p = phrase_here w.phrases what x k i e in done_as r x (phrase_is p.0) p.2 (h p.0 p.1)
     phrase_tells (Err k) i e h = tt
 

@@ -2,7 +2,7 @@
 use Rattle.std.proofs.Common.{◌≡◌, ℕ, List, [], ◌∷◌, ◌++◌, append_assoc, append-nil, Option, Some, None, refl, sym, ◌∙◌, ap, ap₂, subst}
 use Rattle.ath_words.specs.Words.{Asked, run_of}
 use Rattle.ath_reader.specs.Reading.{Reading}
-use Rattle.ath_reader.specs.Next.{OneNext}
+use Rattle.ath_reader.specs.Laws.{OneNext}
 use Rattle.ath_session.specs.declared.status.Status.{Status}
 use Rattle.ath_session.specs.Run.{Item, Configuration, Halt, Move, goes, halts, items_of, turned, Turns, Moves, Runs, at_start, one_more}
 use Rattle.ath_session.specs.Report.{Report, status_of, start, IsLogOf, IsReportOf}

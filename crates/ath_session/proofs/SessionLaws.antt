@@ -11,9 +11,10 @@ use Rattle.ath_terms.specs.Trees as trees
 use Rattle.ath_trees.specs.declared.node.SentId.{SentId}
 use Rattle.std.specs.Prelude.{IfSome}
 use Rattle.ath_sorts.specs.Signature.{boolean}
-use Rattle.ath_sorts.specs.Unifiers.{same_sort}
+use Rattle.ath_sorts.specs.Order.{same_sort}
 use Rattle.ath_trees.specs.Measure.{IsSmall}
-use Rattle.ath_env.specs.Values.{Value, a_term, a_sentence, a_symbol, a_connective, a_quantifier, a_back, a_method, value_at, sentence_of, IsSentenceOf}
+use Rattle.ath_env.specs.Values.{Value, a_term, a_sentence, a_symbol, a_connective, a_quantifier, a_back, a_method, sentence_of}
+use Rattle.ath_env.specs.Stands.{value_at, IsSentenceOf}
 use Rattle.ath_env.proofs.ValueLaws.{sentence-some, sentence-none}
 use Rattle.ath_env.specs.declared.value.Value as coded
 use Rattle.ath_print.specs.declared.fault.Fault.{Fault}
@@ -27,10 +28,15 @@ use Rattle.ath_eval.specs.declared.world.World.{World}
 use Rattle.ath_eval.specs.declared.world.Outcome as code
 use Rattle.ath_eval.specs.declared.world.Outcome.TheVariants as out
 use Rattle.ath_eval.specs.Arguments.{IsSmallValue}
-use Rattle.ath_eval.specs.Base.{sents_of}
+use Rattle.ath_base.specs.declared.entry.Origin.TheVariants.{Asserted, Concluded}
+use Rattle.ath_base.specs.declared.entry.Entry as entry
+use Rattle.ath_base.specs.declared.entry.Origin.{Origin}
+use Rattle.ath_base.specs.Base.{Entry}
+use Rattle.ath_base.proofs.Newest.{entries_last}
+use Rattle.ath_base.specs.Stands.{entries_of}
 use Rattle.ath_eval.specs.World.{Evaluates, IsOutcome}
-use Rattle.ath_eval.specs.Outcomes.{Outcome, gives, concludes, fails, exhausts, refusal}
-use Rattle.ath_eval.proofs.Base.{sents_grow}
+use Rattle.ath_eval.specs.Outcomes.{left_of, Outcome, gives, concludes, fails, exhausts, refusal}
+use Rattle.ath_eval.proofs.Base.{base_same}
 use Rattle.ath_terms.specs.declared.fresh.Fresh.{Fresh}
 use Rattle.ath_session.specs.State.{State, with_left, joining}
 use Rattle.ath_session.specs.Directives.{loads, Effect, asserting_sentence, asserting, showing, refusing, ending, loading}
@@ -47,6 +53,13 @@ begins_still first names new h g =
     let le : length first ≤ length names = omega (arith, ap length h, length-take (length first) names) in
     ap (take (length first)) g.longer ∙ take-append-le (length first) names g.more le ∙ h
 
+-- ---- a sentence that has joined the base
+pub joined_state : (w : World) (es : List entry.Entry) (p : SentId) (how : Origin) → es ≡ w.base.entries.items ++ record { sentence = p; origin = how } ∷ [] → ◌≡◌ {A = State} (record (state_of w) { base = entries_of w.store es }) (joining (state_of w) how (trees.sent_at w.store.sents p.0))
+joined_state w es p how e =
+    let l : entries_of w.store es ≡ record { sentence = trees.sent_at w.store.sents p.0; origin = how } ∷ entries_of w.store w.base.entries.items =
+    ap (entries_of w.store) e ∙ entries_last w.store w.base.entries.items (record { sentence = p; origin = how }) in
+    ap (λ (es : List Entry). record (state_of w) { base = es }) l
+
 -- ---- replies
 pub reply_as : (w : World) (r : Reply) (e f : Effect) → e ≡ f → IsReply w r e → IsReply w r f
 reply_as w r e f h k = subst (IsReply w r) h k
@@ -55,56 +68,56 @@ pub one_event : (s : trees.Trees) (es : List told.Event) (e : told.Event) (x : E
 one_event s es e x h k m = (All-same (IsEventIn s) es (e ∷ []) h (All-cons (IsEventIn s) e [] k (All-nil (IsEventIn s))), ap (map (event_of s)) h ∙ ap (λ y. y ∷ []) m)
 
 -- the state, where an evaluation has moved it
-pub state_moved : (w v : World) → Evaluates w v → state_of v ≡ with_left (state_of w) v.fuel v.fresh
+pub state_moved : (w v : World) → Evaluates w v → state_of v ≡ with_left (state_of w) (left_of v.fuel v.fresh)
 state_moved w v e =
-    let b : sents_of v.store v.base.items ≡ sents_of w.store w.base.items = ap (sents_of v.store) e.base ∙ sents_grow w.store v.store e.grows w.base.items w.in_store in
+    let b : entries_of v.store v.base.entries.items ≡ entries_of w.store w.base.entries.items = ap (entries_of v.store) e.base ∙ base_same w.store v.store e.grows w.base.entries.items w.in_store in
     let n = e.names in
     let g = e.signature in
     λ i. record { names = n i; signature = g i; base = b i; fuel = v.fuel; fresh = v.fresh }
 
-pub state_left : (w v : World) (left : ℕ) (made : Fresh) → Evaluates w v → v.fuel ≡ left → v.fresh ≡ made → state_of v ≡ with_left (state_of w) left made
-state_left w v left made e f g = state_moved w v e ∙ (λ i. with_left (state_of w) (f i) (g i))
+pub state_left : (w v : World) (left : ℕ) (made : Fresh) → Evaluates w v → v.fuel ≡ left → v.fresh ≡ made → state_of v ≡ with_left (state_of w) (left_of left made)
+state_left w v left made e f g = state_moved w v e ∙ (λ i. with_left (state_of w) (left_of (f i) (g i)))
 
 -- ---- what an evaluation gives, asserted
 module _ (w v : World) (moved : Evaluates w v) where
   pub value_asserted : (x : coded.Value) (at place : Pos) (o : Outcome) → IsOutcome v.store v.fuel v.fresh (out.Value x) o → place ≡ at → asserting_sentence (state_of v) at (sentence_of (value_at v.store x)) ≡ asserting (state_of w) place o
-  value_asserted x at place (gives y left made) h e =
-      let s = state_left w v left made moved h.2 h.3 in
+  value_asserted x at place (gives y after) h e =
+      let s = state_left w v after.fuel after.fresh moved h.2 h.3 in
       let p = sym e in
       let q = ap sentence_of h.0.1 in
       λ i. asserting_sentence (s i) (p i) (q i)
-  value_asserted x at place (concludes y left made) h e = absurd h
-  value_asserted x at place (fails inner why left made) h e = absurd h
+  value_asserted x at place (concludes y after) h e = absurd h
+  value_asserted x at place (fails inner why after) h e = absurd h
   value_asserted x at place (exhausts inner made) h e = absurd h
 
   pub theorem_asserted : (p : SentId) (at place : Pos) (o : Outcome) → IsOutcome v.store v.fuel v.fresh (out.Theorem p) o → place ≡ at → asserting_sentence (state_of v) at (sentence_of (value_at v.store (coded.TheVariants.Sent p))) ≡ asserting (state_of w) place o
-  theorem_asserted p at place (concludes y left made) h e =
-      let s = state_left w v left made moved h.2 h.3 in
+  theorem_asserted p at place (concludes y after) h e =
+      let s = state_left w v after.fuel after.fresh moved h.2 h.3 in
       let f = sym e in
       let q = h.0.1 in
       λ i. asserting_sentence (s i) (f i) (Some (q i))
-  theorem_asserted p at place (gives y left made) h e = absurd h
-  theorem_asserted p at place (fails inner why left made) h e = absurd h
+  theorem_asserted p at place (gives y after) h e = absurd h
+  theorem_asserted p at place (fails inner why after) h e = absurd h
   theorem_asserted p at place (exhausts inner made) h e = absurd h
 
   pub error_asserted : (at place : Pos) (f : Fault) (o : Outcome) → IsOutcome v.store v.fuel v.fresh (out.Error at f) o → refusing (state_of v) at (refusal_of v.store f) ≡ asserting (state_of w) place o
-  error_asserted at place f (fails inner why left made) h =
-      let s = state_left w v left made moved h.2 h.3 in
+  error_asserted at place f (fails inner why after) h =
+      let s = state_left w v after.fuel after.fresh moved h.2 h.3 in
       let p = h.0 in
       let q = h.1.1 in
       λ i. refusing (s i) (p i) (q i)
-  error_asserted at place f (gives y left made) h = absurd h
-  error_asserted at place f (concludes y left made) h = absurd h
+  error_asserted at place f (gives y after) h = absurd h
+  error_asserted at place f (concludes y after) h = absurd h
   error_asserted at place f (exhausts inner made) h = absurd h
 
   pub error_shown : (at : Pos) (f : Fault) (o : Outcome) → IsOutcome v.store v.fuel v.fresh (out.Error at f) o → refusing (state_of v) at (refusal_of v.store f) ≡ showing (state_of w) o
-  error_shown at f (fails inner why left made) h =
-      let s = state_left w v left made moved h.2 h.3 in
+  error_shown at f (fails inner why after) h =
+      let s = state_left w v after.fuel after.fresh moved h.2 h.3 in
       let p = h.0 in
       let q = h.1.1 in
       λ i. refusing (s i) (p i) (q i)
-  error_shown at f (gives y left made) h = absurd h
-  error_shown at f (concludes y left made) h = absurd h
+  error_shown at f (gives y after) h = absurd h
+  error_shown at f (concludes y after) h = absurd h
   error_shown at f (exhausts inner made) h = absurd h
 
   spent_here : (r : Reply) (at inner : Pos) (made : Fresh) → (at ≡ inner) → v.fuel ≡ 0 → v.fresh ≡ made → r.events.items ≡ telling.Fuel at ∷ [] → r.next ≡ next.Stop → IsReply v r (ending (state_of w) inner made)
@@ -116,38 +129,38 @@ module _ (w v : World) (moved : Evaluates w v) where
 
   pub spent_asserted : (r : Reply) (at place : Pos) (o : Outcome) → IsOutcome v.store v.fuel v.fresh (out.Exhausted at) o → r.events.items ≡ telling.Fuel at ∷ [] → r.next ≡ next.Stop → IsReply v r (asserting (state_of w) place o)
   spent_asserted r at place (exhausts inner made) h e n = spent_here r at inner made h.0 h.1 h.2 e n
-  spent_asserted r at place (gives y left made) h e n = absurd h
-  spent_asserted r at place (concludes y left made) h e n = absurd h
-  spent_asserted r at place (fails inner why left made) h e n = absurd h
+  spent_asserted r at place (gives y after) h e n = absurd h
+  spent_asserted r at place (concludes y after) h e n = absurd h
+  spent_asserted r at place (fails inner why after) h e n = absurd h
 
   pub spent_shown : (r : Reply) (at : Pos) (o : Outcome) → IsOutcome v.store v.fuel v.fresh (out.Exhausted at) o → r.events.items ≡ telling.Fuel at ∷ [] → r.next ≡ next.Stop → IsReply v r (showing (state_of w) o)
   spent_shown r at (exhausts inner made) h e n = spent_here r at inner made h.0 h.1 h.2 e n
-  spent_shown r at (gives y left made) h e n = absurd h
-  spent_shown r at (concludes y left made) h e n = absurd h
-  spent_shown r at (fails inner why left made) h e n = absurd h
+  spent_shown r at (gives y after) h e n = absurd h
+  spent_shown r at (concludes y after) h e n = absurd h
+  spent_shown r at (fails inner why after) h e n = absurd h
 
   pub value_shown : (r : Reply) (x : coded.Value) (o : Outcome) → IsOutcome v.store v.fuel v.fresh (out.Value x) o → r.events.items ≡ telling.Shown x ∷ [] → r.next ≡ next.Go → IsReply v r (showing (state_of w) o)
-  value_shown r x (gives y left made) h e n = record {
+  value_shown r x (gives y after) h e n = record {
     events = one_event v.store r.events.items (telling.Shown x) (Event.shown y) e h.0.0 (ap Event.shown h.0.1);
     next = ap next_of n;
-    state = state_left w v left made moved h.2 h.3;
+    state = state_left w v after.fuel after.fresh moved h.2 h.3;
   }
-  value_shown r x (concludes y left made) h e n = absurd h
-  value_shown r x (fails inner why left made) h e n = absurd h
+  value_shown r x (concludes y after) h e n = absurd h
+  value_shown r x (fails inner why after) h e n = absurd h
   value_shown r x (exhausts inner made) h e n = absurd h
 
   -- the conclusion, when it has joined the base
-  pub theorem_shown : (u : World) (r : Reply) (p : SentId) (o : Outcome) → IsOutcome v.store v.fuel v.fresh (out.Theorem p) o → u.store ≡ v.store → state_of u ≡ joining (state_of v) (trees.sent_at v.store.sents p.0) → r.events.items ≡ telling.Theorem p ∷ [] → r.next ≡ next.Go → IsReply u r (showing (state_of w) o)
-  theorem_shown u r p (concludes y left made) h m j e n =
-      let s = state_left w v left made moved h.2 h.3 in
+  pub theorem_shown : (u : World) (r : Reply) (p : SentId) (o : Outcome) → IsOutcome v.store v.fuel v.fresh (out.Theorem p) o → u.store ≡ v.store → state_of u ≡ joining (state_of v) Concluded (trees.sent_at v.store.sents p.0) → r.events.items ≡ telling.Theorem p ∷ [] → r.next ≡ next.Go → IsReply u r (showing (state_of w) o)
+  theorem_shown u r p (concludes y after) h m j e n =
+      let s = state_left w v after.fuel after.fresh moved h.2 h.3 in
       let q = h.0.1 in
       record {
         events = subst (λ (t : trees.Trees). AreEvents t r.events.items (Event.proved y ∷ [])) (sym m) (one_event v.store r.events.items (telling.Theorem p) (Event.proved y) e h.0.0 (ap Event.proved q));
         next = ap next_of n;
-        state = j ∙ (λ i. joining (s i) (q i));
+        state = j ∙ (λ i. joining (s i) Concluded (q i));
       }
-  theorem_shown u r p (gives y left made) h m j e n = absurd h
-  theorem_shown u r p (fails inner why left made) h m j e n = absurd h
+  theorem_shown u r p (gives y after) h m j e n = absurd h
+  theorem_shown u r p (fails inner why after) h m j e n = absurd h
   theorem_shown u r p (exhausts inner made) h m j e n = absurd h
 
 -- ---- the sentence of a value is within the limits
@@ -169,18 +182,18 @@ module _ (s : trees.Trees) (fuel : ℕ) (fresh : Fresh) (k : code.Outcome) (o : 
   value_small x is = by o (subst (λ (k : code.Outcome). IsOutcome s fuel fresh k o) is h)
     where
       by : (o : Outcome) → IsOutcome s fuel fresh (out.Value x) o → IfSome (sentence_of (value_at s x)) IsSmall
-      by (gives y left made) h = subst (λ (v : Value). IfSome (sentence_of v) IsSmall) (sym h.0.1) (small_sentence y h.1)
-      by (concludes y left made) h = absurd h
-      by (fails at why left made) h = absurd h
+      by (gives y after) h = subst (λ (v : Value). IfSome (sentence_of v) IsSmall) (sym h.0.1) (small_sentence y h.1)
+      by (concludes y after) h = absurd h
+      by (fails at why after) h = absurd h
       by (exhausts at made) h = absurd h
 
   pub theorem_small : (p : SentId) → k ≡ out.Theorem p → IsSmall (trees.sent_at s.sents p.0)
   theorem_small p is = by o (subst (λ (k : code.Outcome). IsOutcome s fuel fresh k o) is h)
     where
       by : (o : Outcome) → IsOutcome s fuel fresh (out.Theorem p) o → IsSmall (trees.sent_at s.sents p.0)
-      by (concludes y left made) h = subst (λ (q : Sent). IsSmall q) (sym h.0.1) h.1.0
-      by (gives y left made) h = absurd h
-      by (fails at why left made) h = absurd h
+      by (concludes y after) h = subst (λ (q : Sent). IsSmall q) (sym h.0.1) h.1.0
+      by (gives y after) h = absurd h
+      by (fails at why after) h = absurd h
       by (exhausts at made) h = absurd h
 
 -- a sentence that is found is within the limits
@@ -201,10 +214,10 @@ refused_plainly w r at f k e p q g h = reply_as w r _ e (ap (refusing (state_of 
 -- ---- a value that is asserted, in a store that has grown
 module _ (w : World) (t : trees.Trees) (grown : trees.Grows w.store t) (x : coded.Value) where
   abbrev grown_state : State
-  grown_state = record { names = w.names; signature = w.sig; base = sents_of t w.base.items; fuel = w.fuel; fresh = w.fresh }
+  grown_state = record { names = w.names; signature = w.sig; base = entries_of t w.base.entries.items; fuel = w.fuel; fresh = w.fresh }
 
   same_state : grown_state ≡ state_of w
-  same_state = ap (λ (ps : List Sent). record { names = w.names; signature = w.sig; base = ps; fuel = w.fuel; fresh = w.fresh }) (sents_grow w.store t grown w.base.items w.in_store)
+  same_state = ap (λ (es : List Entry). record { names = w.names; signature = w.sig; base = es; fuel = w.fuel; fresh = w.fresh }) (base_same w.store t grown w.base.entries.items w.in_store)
 
   pub no_sentence : (u : World) (r : Reply) (at : Pos) (found : Option SentId) (f : Fault) → IsSentenceOf t found (sentence_of (value_at w.store x)) → found ≡ None → f.kind ≡ NotSentence → f.args ≡ [] → IsReply u r (refusing grown_state at (refusal_of t f)) → IsReply u r (asserting_sentence (state_of w) at (sentence_of (value_at w.store x)))
   no_sentence u r at found f h e k a p =
@@ -213,7 +226,7 @@ module _ (w : World) (t : trees.Trees) (grown : trees.Grows w.store t) (x : code
       let s = same_state in
       reply_as u r _ _ ((λ i. refusing (s i) at (q i)) ∙ ap (asserting_sentence (state_of w) at) (sym n)) p
 
-  pub sentence_joined : (v : World) (r : Reply) (at : Pos) (found : Option SentId) (p : SentId) → IsSentenceOf t found (sentence_of (value_at w.store x)) → found ≡ Some p → v.store ≡ t → state_of v ≡ joining grown_state (trees.sent_at t.sents p.0) → r.events.items ≡ telling.Assertion p ∷ [] → r.next ≡ next.Go → IsReply v r (asserting_sentence (state_of w) at (sentence_of (value_at w.store x)))
+  pub sentence_joined : (v : World) (r : Reply) (at : Pos) (found : Option SentId) (p : SentId) → IsSentenceOf t found (sentence_of (value_at w.store x)) → found ≡ Some p → v.store ≡ t → state_of v ≡ joining grown_state Asserted (trees.sent_at t.sents p.0) → r.events.items ≡ telling.Assertion p ∷ [] → r.next ≡ next.Go → IsReply v r (asserting_sentence (state_of w) at (sentence_of (value_at w.store x)))
   sentence_joined v r at found p h e m j a n =
       let y = sentence-some t found (sentence_of (value_at w.store x)) p h e in
       let s = same_state in
@@ -221,7 +234,7 @@ module _ (w : World) (t : trees.Trees) (grown : trees.Grows w.store t) (x : code
       reply_as v r (asserting_sentence (state_of w) at (Some y.0)) _ (ap (asserting_sentence (state_of w) at) (sym y.1)) (record {
         events = subst (λ (t : trees.Trees). AreEvents t r.events.items (Event.asserted y.0 ∷ [])) (sym m) (one_event t r.events.items (telling.Assertion p) (Event.asserted y.0) a y.2.0 (ap Event.asserted q));
         next = ap next_of n;
-        state = j ∙ (λ i. joining (s i) (q i));
+        state = j ∙ (λ i. joining (s i) Asserted (q i));
       })
 
 -- ---- a file that is loaded

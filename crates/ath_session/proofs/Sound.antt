@@ -6,7 +6,7 @@ use Rattle.ath_io.specs.Shelf.{front_of}
 use Rattle.ath_words.specs.Words.{Asked, run_of}
 use Rattle.ath_sorts.specs.declared.sorts.Sym.{Sym}
 use Rattle.std.specs.Prelude.{IfSome}
-use Rattle.ath_sorts.specs.declared.signature.SigError.{SigError}
+use Rattle.ath_sorts.specs.declared.signature.Flaw.{Flaw}
 use Rattle.ath_sorts.specs.Signature.{Signature, arity_of}
 use Rattle.ath_sorts.proofs.ValidityLaws.{initial_valid}
 use Rattle.ath_sorts.specs.Validity.{AreDistinct, IsValid}
@@ -18,8 +18,9 @@ use Rattle.ath_syntax.specs.declared.place.Pos.{Pos}
 use Rattle.ath_syntax.specs.Tree.{Phrase, Statement, domain_is, datatype_is, declare_is, define_is, define_fun_is, assert_is, load_is, phrase_is, DirectiveTree, directive_at}
 use Rattle.ath_trees.specs.Tree.{Sent}
 use Rattle.ath_trees.specs.WellSorted.{IsWellSorted}
-use Rattle.ath_calculus.specs.Derives.{Derives, axiom_of, IsIn}
+use Rattle.ath_calculus.specs.Derives.{Derives, axiom_of, IsIn, AreDerivable}
 use Rattle.ath_calculus.specs.Laws.{Extends}
+use Rattle.ath_calculus.specs.Theory.{Theory, theory_of}
 use Rattle.ath_calculus.proofs.Grown.{well_sorted}
 use Rattle.ath_env.specs.Values.{Value, sentence_of}
 use Rattle.ath_print.specs.declared.fault.FaultKind.TheVariants.{BadUtf8, FileTooLong, TooManyLoads}
@@ -27,21 +28,25 @@ use Rattle.ath_print.specs.Events.{Refusal, Event, domain_added, symbols_added, 
 use Rattle.ath_print.specs.Events as events
 use Rattle.ath_reader.specs.Reading.{Reading, reached}
 use Rattle.ath_reader.specs.Next as reading
-use Rattle.ath_eval.specs.Outcomes.{refusal, Outcome, gives, concludes, fails, exhausts}
-use Rattle.ath_eval.specs.Evaluation.{most_nested, outcome_of, place}
-use Rattle.ath_eval.specs.Laws.{IsSoundBase, ConclusionsFollow, IsSortedValue, ValuesAreSorted}
+use Rattle.ath_base.specs.declared.entry.Origin.TheVariants.{Asserted, Concluded}
+use Rattle.ath_base.specs.Base.{sentences}
+use Rattle.ath_eval.specs.Outcomes.{Left, left_of, refusal, Outcome, gives, concludes, fails, exhausts}
+use Rattle.ath_eval.specs.Evaluation.{most_nested, outcome_of}
+use Rattle.ath_syntax.specs.Places.{place}
+use Rattle.ath_eval.specs.Laws.{ConclusionsFollow, IsSortedValue, ValuesAreSorted}
 use Rattle.ath_eval.specs.Laws.{Moves as NoneRises, FuelNeverRises as NeverRises}
 use Rattle.ath_eval.proofs.Kept.{extends_of}
 use Rattle.ath_eval.proofs.Sound.{base_grown, base_joined, sentence-sorted}
 use Rattle.ath_grammar.proofs.TypedTable.{StatementDiffers, DirectiveDiffers}
 use Rattle.ath_session.proofs.Differ.{whole_differs}
-use Rattle.ath_session.specs.State.{State, first_state, context, with_left, with_signature, with_names, joining}
+use Rattle.ath_session.specs.State.{State, first_state, context, environment, left, with_left, with_signature, with_names, joining}
 use Rattle.ath_session.specs.Built.{unbuilt_in}
 use Rattle.ath_session.specs.Directives.{Next, goes_on, loads, ends, Effect, telling, declaring, asserting, asserting_sentence, ending, showing, refusing, loading, done, unless_unbuilt, effect}
 use Rattle.ath_session.specs.Run.{Item, asks, tells, Configuration, Halt, Move, goes, halts, reading_of, opened, fetched, asking, beginning_of, next_file, tell_all, following, place_of, turned, Turns, Runs, at_start, one_more, said}
 use Rattle.ath_session.specs.declared.limits.TheConstants.{MOST_BYTES, MOST_ASKED, MOST_LOADS}
 use Rattle.ath_session.specs.Said.{Said}
 use Rattle.ath_session.specs.Report.{Report, said_in, start, IsLogOf, IsReportOf}
+use Rattle.ath_session.specs.Sound.{IsSoundFor}
 use Rattle.ath_session.specs.Theorems.{asserted_after, IsJustified, AreJustified}
 use Rattle.ath_session.specs.Believed.{AreBelieved}
 use Rattle.ath_session.proofs.WholeLines.{log_named, log_lines}
@@ -65,14 +70,14 @@ told-kept st new x e f = record {
   exhaustion = λ g. absurd (not-either (is_exhausted x) f g);
 }
 
-refusing-kept : (st : State) (left : ℕ) (made : Fresh) (at : Pos) (why : Refusal) → Kept st (refusing (with_left st left made) at why)
-refusing-kept st left made at why = record {
+refusing-kept : (st : State) (after : Left) (at : Pos) (why : Refusal) → Kept st (refusing (with_left st after) at why)
+refusing-kept st after at why = record {
   refusal = λ g. (refl, (refused at why, refl));
   exhaustion = λ g. absurd (true≢false (sym g));
 }
 
 refused-kept : (st : State) (at : Pos) (why : Refusal) → Kept st (refusing st at why)
-refused-kept st at why = refusing-kept st st.fuel st.fresh at why
+refused-kept st at why = refusing-kept st (left st) at why
 
 ending-kept : (st : State) (at : Pos) (made : Fresh) → Kept st (ending st at made)
 ending-kept st at made = record {
@@ -80,24 +85,24 @@ ending-kept st at made = record {
   exhaustion = λ g. (refl, refl, refl, (at, refl));
 }
 
-declaring-kept : (st : State) (at : Pos) (x : Event) → is_refused x ≡ false → is_exhausted x ≡ false → (unlisted : Bool) (o : Result Signature SigError) → Kept st (declaring st at x unlisted o)
-declaring-kept st at x e f unlisted (Ok sig) = told-kept st (with_signature st sig) x e f
-declaring-kept st at x e f unlisted (Err err) = refused-kept st at _
+declaring-kept : (st : State) (at : Pos) (x : Event) → is_refused x ≡ false → is_exhausted x ≡ false → (o : Result Signature Flaw) → Kept st (declaring st at x o)
+declaring-kept st at x e f (Ok sig) = told-kept st (with_signature st sig) x e f
+declaring-kept st at x e f (Err err) = refused-kept st at _
 
-sentence-kept : (st : State) (left : ℕ) (made : Fresh) (at : Pos) (o : Option Sent) → Kept st (asserting_sentence (with_left st left made) at o)
-sentence-kept st left made at (Some p) = told-kept st (joining (with_left st left made) p) (asserted p) refl refl
-sentence-kept st left made at None = refusing-kept st left made at _
+sentence-kept : (st : State) (after : Left) (at : Pos) (o : Option Sent) → Kept st (asserting_sentence (with_left st after) at o)
+sentence-kept st after at (Some p) = told-kept st (joining (with_left st after) Asserted p) (asserted p) refl refl
+sentence-kept st after at None = refusing-kept st after at _
 
 asserting-kept : (st : State) (at : Pos) (o : Outcome) → Kept st (asserting st at o)
-asserting-kept st at (gives v left made) = sentence-kept st left made at (sentence_of v)
-asserting-kept st at (concludes p left made) = sentence-kept st left made at (Some p)
-asserting-kept st at (fails inner why left made) = refusing-kept st left made inner why
+asserting-kept st at (gives v after) = sentence-kept st after at (sentence_of v)
+asserting-kept st at (concludes p after) = sentence-kept st after at (Some p)
+asserting-kept st at (fails inner why after) = refusing-kept st after inner why
 asserting-kept st at (exhausts inner made) = ending-kept st inner made
 
 showing-kept : (st : State) (o : Outcome) → Kept st (showing st o)
-showing-kept st (gives v left made) = told-kept st (with_left st left made) (shown v) refl refl
-showing-kept st (concludes p left made) = told-kept st (joining (with_left st left made) p) (proved p) refl refl
-showing-kept st (fails at why left made) = refusing-kept st left made at why
+showing-kept st (gives v after) = told-kept st (with_left st after) (shown v) refl refl
+showing-kept st (concludes p after) = told-kept st (joining (with_left st after) Concluded p) (proved p) refl refl
+showing-kept st (fails at why after) = refusing-kept st after at why
 showing-kept st (exhausts at made) = ending-kept st at made
 
 loading-kept : (st : State) (at : Pos) (name : List ℕ) → Kept st (loading st at name)
@@ -108,11 +113,11 @@ loading-kept st at name = go (is_utf8 name)
     go false = refused-kept st at _
 
 done-kept : (st : State) (at : Pos) (s : Statement) → Kept st (done st at s)
-done-kept st at (declare_is ns params args result) = declaring-kept st at (symbols_added ns) refl refl _ (after.declared st.signature ns params args result)
-done-kept st at (assert_is n closed x) = asserting-kept st (place x) (outcome_of (context st) x st.fuel st.fresh)
+done-kept st at (declare_is ns params args result) = declaring-kept st at (symbols_added ns) refl refl (after.declared st.signature ns params args result)
+done-kept st at (assert_is n closed x) = asserting-kept st (place x) (outcome_of (context st) (environment st) x (left st))
 done-kept st at (load_is name) = loading-kept st at name
-done-kept st at (phrase_is x) = showing-kept st (outcome_of (context st) x st.fuel st.fresh)
-done-kept st at (domain_is n vs) = declaring-kept st at (domain_added n) refl refl false (after.domain_declared st.signature n vs)
+done-kept st at (phrase_is x) = showing-kept st (outcome_of (context st) (environment st) x (left st))
+done-kept st at (domain_is n vs) = declaring-kept st at (domain_added n) refl refl (after.domain_declared st.signature n vs)
 done-kept st at (datatype_is n vs cs) = refused-kept st at _
 done-kept st at (define_is n x) = refused-kept st at _
 done-kept st at (define_fun_is f xs x) = refused-kept st at _
@@ -137,24 +142,24 @@ Moved st new = (new.fuel ≤ st.fuel) × (st.fresh.var ≤ new.fresh.var) × (st
 not-moved : (st : State) → Moved st st
 not-moved st = (le_refl st.fuel, le_refl st.fresh.var, le_refl st.fresh.sort)
 
-declaring-moved : (st : State) (at : Pos) (x : Event) (unlisted : Bool) (o : Result Signature SigError) → Moved st (declaring st at x unlisted o).state
-declaring-moved st at x unlisted (Ok sig) = not-moved st
-declaring-moved st at x unlisted (Err e) = not-moved st
+declaring-moved : (st : State) (at : Pos) (x : Event) (o : Result Signature Flaw) → Moved st (declaring st at x o).state
+declaring-moved st at x (Ok sig) = not-moved st
+declaring-moved st at x (Err e) = not-moved st
 
 sentence-moved : (st new : State) → Moved st new → (at : Pos) (o : Option Sent) → Moved st (asserting_sentence new at o).state
 sentence-moved st new h at (Some p) = h
 sentence-moved st new h at None = h
 
-asserting-moved : (st : State) (at : Pos) (o : Outcome) → NoneRises st.fuel st.fresh o → Moved st (asserting st at o).state
-asserting-moved st at (gives v left made) h = sentence-moved st (with_left st left made) h at (sentence_of v)
-asserting-moved st at (concludes p left made) h = h
-asserting-moved st at (fails inner why left made) h = h
+asserting-moved : (st : State) (at : Pos) (o : Outcome) → NoneRises (left st) o → Moved st (asserting st at o).state
+asserting-moved st at (gives v after) h = sentence-moved st (with_left st after) h at (sentence_of v)
+asserting-moved st at (concludes p after) h = h
+asserting-moved st at (fails inner why after) h = h
 asserting-moved st at (exhausts inner made) h = (zero-le, h.0, h.1)
 
-showing-moved : (st : State) (o : Outcome) → NoneRises st.fuel st.fresh o → Moved st (showing st o).state
-showing-moved st (gives v left made) h = h
-showing-moved st (concludes p left made) h = h
-showing-moved st (fails at why left made) h = h
+showing-moved : (st : State) (o : Outcome) → NoneRises (left st) o → Moved st (showing st o).state
+showing-moved st (gives v after) h = h
+showing-moved st (concludes p after) h = h
+showing-moved st (fails at why after) h = h
 showing-moved st (exhausts at made) h = (zero-le, h.0, h.1)
 
 loading-moved : (st : State) (at : Pos) (name : List ℕ) → Moved st (loading st at name).state
@@ -166,11 +171,11 @@ loading-moved st at name = go (is_utf8 name)
 
 module _ (never : NeverRises) where
   done-moved : (st : State) (at : Pos) (s : Statement) → Moved st (done st at s).state
-  done-moved st at (declare_is ns params args result) = declaring-moved st at (symbols_added ns) _ (after.declared st.signature ns params args result)
-  done-moved st at (assert_is n closed x) = asserting-moved st (place x) (outcome_of (context st) x st.fuel st.fresh) (never (context st) most_nested x st.fuel st.fresh)
+  done-moved st at (declare_is ns params args result) = declaring-moved st at (symbols_added ns) (after.declared st.signature ns params args result)
+  done-moved st at (assert_is n closed x) = asserting-moved st (place x) (outcome_of (context st) (environment st) x (left st)) (never (context st) (environment st) most_nested x (left st))
   done-moved st at (load_is name) = loading-moved st at name
-  done-moved st at (phrase_is x) = showing-moved st (outcome_of (context st) x st.fuel st.fresh) (never (context st) most_nested x st.fuel st.fresh)
-  done-moved st at (domain_is n vs) = declaring-moved st at (domain_added n) false (after.domain_declared st.signature n vs)
+  done-moved st at (phrase_is x) = showing-moved st (outcome_of (context st) (environment st) x (left st)) (never (context st) (environment st) most_nested x (left st))
+  done-moved st at (domain_is n vs) = declaring-moved st at (domain_added n) (after.domain_declared st.signature n vs)
   done-moved st at (datatype_is n vs cs) = not-moved st
   done-moved st at (define_is n x) = not-moved st
   done-moved st at (define_fun_is f xs x) = not-moved st
@@ -185,24 +190,19 @@ module _ (never : NeverRises) where
   pub fuel_never_rises : FuelNeverRises
   fuel_never_rises = λ st d. effect-moved st d
 
--- ---- what holds between a state and the asserted sentences: what is declared is valid; each sentence of the base is derivable
-record Sound (ps : List Sent) (st : State) : Type 0 where
-  valid : IsValid st.signature
-  has_boolean : arity_of st.signature (record { 0 = 0 }) ≡ Some 0
-  base : IsSoundBase st.signature ps st.base
-
+-- ---- one directive, by what holds between a state and the asserted sentences
 -- the events are justified, each by what is declared after them all, and it holds after them
-abbrev Tells : Signature → List Sent → List Event → State → Type 0
-Tells sig ps [] st = Sound ps st
+abbrev pub Tells : Signature → List Sent → List Event → State → Type 0
+Tells sig ps [] st = IsSoundFor ps st
 Tells sig ps (e ∷ es) st = IsJustified sig ps e × Tells sig (asserted_after ps e) es st
 
 -- the name of a file is all that a load gives
-abbrev Does : List Sent → List Event → State → Next → Type 0
+abbrev pub Does : List Sent → List Event → State → Next → Type 0
 Does ps es st goes_on = Tells st.signature ps es st
 Does ps es st ends = Tells st.signature ps es st
-Does ps es st (loads name) = Sound ps st
+Does ps es st (loads name) = IsSoundFor ps st
 
-abbrev DoesAll : List Sent → Effect → Type 0
+abbrev pub DoesAll : List Sent → Effect → Type 0
 DoesAll ps e = Does ps e.events e.state e.next
 
 -- ---- one directive
@@ -218,87 +218,87 @@ is-last : (p : Sent) (some : List Sent) → IsIn p (some ++ p ∷ [])
 is-last p [] = inl refl
 is-last p (q ∷ some) = inr (is-last p some)
 
-extends-refl : (sig : Signature) → Extends sig sig
-extends-refl sig = record { sorts = λ c n e. e; symbols = λ f d e. e }
+extends-refl : (th : Theory) → Extends th th
+extends-refl th = record { sorts = λ c n e. e; symbols = λ f d e. e; datatypes = λ d i. i }
 
-declare-does : (ps : List Sent) (st : State) → Sound ps st → (at : Pos) (x : Event) → ((sig : Signature) → IsJustified sig ps x) → asserted_after ps x ≡ ps → (unlisted : Bool) (o : Result Signature SigError) → ((sig : Signature) → o ≡ Ok sig → Extends st.signature sig × IsValid sig) → DoesAll ps (declaring st at x unlisted o)
-declare-does ps st sound at x just same unlisted (Ok sig) grown =
+declare-does : (ps : List Sent) (st : State) → IsSoundFor ps st → (at : Pos) (x : Event) → ((sig : Signature) → IsJustified sig ps x) → asserted_after ps x ≡ ps → (o : Result Signature Flaw) → ((sig : Signature) → o ≡ Ok sig → Extends (theory_of st.signature) (theory_of sig) × IsValid sig) → DoesAll ps (declaring st at x o)
+declare-does ps st sound at x just same (Ok sig) grown =
     let g = grown sig refl in
-    (just sig, subst (λ (qs : List Sent). Sound qs (with_signature st sig)) (sym same) (record { valid = g.1; has_boolean = g.0.sorts (record { 0 = 0 }) 0 sound.has_boolean; base = base_grown st.signature sig ps ps st.base g.0 (λ q i. i) sound.base }))
-declare-does ps st sound at x just same unlisted (Err e) grown = (tt, sound)
+    (just sig, subst (λ (qs : List Sent). IsSoundFor qs (with_signature st sig)) (sym same) (record { valid = g.1; has_boolean = g.0.sorts (record { 0 = 0 }) 0 sound.has_boolean; base = base_grown (theory_of st.signature) (theory_of sig) ps ps [] (sentences st.base) g.0 (λ q i. i) sound.base }))
+declare-does ps st sound at x just same (Err e) grown = (tt, sound)
 
-sentence-does : (ps : List Sent) (st : State) → Sound ps st → (at : Pos) (o : Option Sent) → ((p : Sent) → o ≡ Some p → IsWellSorted st.signature p) → DoesAll ps (asserting_sentence st at o)
+sentence-does : (ps : List Sent) (st : State) → IsSoundFor ps st → (at : Pos) (o : Option Sent) → ((p : Sent) → o ≡ Some p → IsWellSorted st.signature p) → DoesAll ps (asserting_sentence st at o)
 sentence-does ps st sound at None sorted = (tt, sound)
 sentence-does ps st sound at (Some p) sorted =
     let all = ps ++ p ∷ [] in
-    let base = base_grown st.signature st.signature ps all st.base (extends-refl st.signature) (λ q i. in-append q ps (p ∷ []) i) sound.base in
-    let derives : Derives st.signature all [] p = axiom_of tt (sorted p refl) (is-last p ps) in
-    (tt, record { valid = sound.valid; has_boolean = sound.has_boolean; base = base_joined st.signature all st.base p base derives })
+    let base = base_grown (theory_of st.signature) (theory_of st.signature) ps all [] (sentences st.base) (extends-refl (theory_of st.signature)) (λ q i. in-append q ps (p ∷ []) i) sound.base in
+    let derives : Derives (theory_of st.signature) all [] p = axiom_of tt (sorted p refl) (is-last p ps) in
+    (tt, record { valid = sound.valid; has_boolean = sound.has_boolean; base = base_joined (theory_of st.signature) all [] (sentences st.base) p base derives })
 
 -- what is known of an outcome
 record Follows (sig : Signature) (ps : List Sent) (o : Outcome) : Type 0 where
-  sorted : (v : Value) (left : ℕ) (made : Fresh) → o ≡ gives v left made → IsSortedValue sig v
-  derives : (p : Sent) (left : ℕ) (made : Fresh) → o ≡ concludes p left made → Derives sig ps [] p
+  sorted : (v : Value) (after : Left) → o ≡ gives v after → IsSortedValue sig v
+  derives : (p : Sent) (after : Left) → o ≡ concludes p after → Derives (theory_of sig) ps [] p
 
-left-sound : (ps : List Sent) (st : State) (left : ℕ) (made : Fresh) → Sound ps st → Sound ps (with_left st left made)
-left-sound ps st left made sound = record { valid = sound.valid; has_boolean = sound.has_boolean; base = sound.base }
+left-sound : (ps : List Sent) (st : State) (after : Left) → IsSoundFor ps st → IsSoundFor ps (with_left st after)
+left-sound ps st after sound = record { valid = sound.valid; has_boolean = sound.has_boolean; base = sound.base }
 
-assert-does : (ps : List Sent) (st : State) → Sound ps st → (at : Pos) (o : Outcome) → Follows st.signature ps o → DoesAll ps (asserting st at o)
-assert-does ps st sound at (gives v left made) f = sentence-does ps (with_left st left made) (left-sound ps st left made sound) at (sentence_of v) (λ p e. sentence-sorted st.signature v p (f.sorted v left made refl) e)
-assert-does ps st sound at (concludes p left made) f =
-    sentence-does ps (with_left st left made) (left-sound ps st left made sound) at (Some p) (λ q e. let same : p ≡ q = cc in subst (IsWellSorted st.signature) same (well_sorted (f.derives p left made refl)))
-assert-does ps st sound at (fails inner why left made) f = (tt, left-sound ps st left made sound)
-assert-does ps st sound at (exhausts inner made) f = (tt, left-sound ps st 0 made sound)
+assert-does : (ps : List Sent) (st : State) → IsSoundFor ps st → (at : Pos) (o : Outcome) → Follows st.signature ps o → DoesAll ps (asserting st at o)
+assert-does ps st sound at (gives v after) f = sentence-does ps (with_left st after) (left-sound ps st after sound) at (sentence_of v) (λ p e. sentence-sorted st.signature v p (f.sorted v after refl) e)
+assert-does ps st sound at (concludes p after) f =
+    sentence-does ps (with_left st after) (left-sound ps st after sound) at (Some p) (λ q e. let same : p ≡ q = cc in subst (IsWellSorted st.signature) same (well_sorted (f.derives p after refl)))
+assert-does ps st sound at (fails inner why after) f = (tt, left-sound ps st after sound)
+assert-does ps st sound at (exhausts inner made) f = (tt, left-sound ps st (left_of 0 made) sound)
 
-show-does : (ps : List Sent) (st : State) → Sound ps st → (o : Outcome) → Follows st.signature ps o → DoesAll ps (showing st o)
-show-does ps st sound (gives v left made) f = (tt, left-sound ps st left made sound)
-show-does ps st sound (concludes p left made) f =
-    let derives = f.derives p left made refl in
-    (derives, record { valid = sound.valid; has_boolean = sound.has_boolean; base = base_joined st.signature ps st.base p sound.base derives })
-show-does ps st sound (fails at why left made) f = (tt, left-sound ps st left made sound)
-show-does ps st sound (exhausts at made) f = (tt, left-sound ps st 0 made sound)
+show-does : (ps : List Sent) (st : State) → IsSoundFor ps st → (o : Outcome) → Follows st.signature ps o → DoesAll ps (showing st o)
+show-does ps st sound (gives v after) f = (tt, left-sound ps st after sound)
+show-does ps st sound (concludes p after) f =
+    let derives = f.derives p after refl in
+    (derives, record { valid = sound.valid; has_boolean = sound.has_boolean; base = base_joined (theory_of st.signature) ps [] (sentences st.base) p sound.base derives })
+show-does ps st sound (fails at why after) f = (tt, left-sound ps st after sound)
+show-does ps st sound (exhausts at made) f = (tt, left-sound ps st (left_of 0 made) sound)
 
-load-does : (ps : List Sent) (st : State) → Sound ps st → (at : Pos) (name : List ℕ) → DoesAll ps (loading st at name)
+load-does : (ps : List Sent) (st : State) → IsSoundFor ps st → (at : Pos) (name : List ℕ) → DoesAll ps (loading st at name)
 load-does ps st sound at name = go (is_utf8 name)
   where
     go : (b : Bool) → DoesAll ps (if b then record { state = st; events = []; next = loads name } else refusing st at (refusal BadUtf8 []))
     go true = sound
     go false = (tt, sound)
 
-domain-grown : (old : Signature) (n : Sym) (vs : List Sym) → IsValid old → (sig : Signature) → after.domain_declared old n vs ≡ Ok sig → Extends old sig × IsValid sig
+domain-grown : (old : Signature) (n : Sym) (vs : List Sym) → IsValid old → (sig : Signature) → after.domain_declared old n vs ≡ Ok sig → Extends (theory_of old) (theory_of sig) × IsValid sig
 domain-grown old n vs valid sig e = (extends_of old sig (domain_keeps old sig n vs e), domain_valid old sig n vs valid e)
 
-symbols-grown : (old : Signature) (ns : List Sym) (list : Option (List Sym)) (args : List SortText) (result : SortText) → IsValid old → IfSome list AreDistinct → (sig : Signature) → after.declared old ns list args result ≡ Ok sig → Extends old sig × IsValid sig
+symbols-grown : (old : Signature) (ns : List Sym) (list : Option (List Sym)) (args : List SortText) (result : SortText) → IsValid old → IfSome list AreDistinct → (sig : Signature) → after.declared old ns list args result ≡ Ok sig → Extends (theory_of old) (theory_of sig) × IsValid sig
 symbols-grown old ns list args result valid differ sig e = (extends_of old sig (symbols_keep old sig ns list args result e), symbols_valid old sig ns list args result valid differ e)
 
 -- these are laws of evaluation: conclusions are derivable, and values are well-sorted
 module _ (follow : ConclusionsFollow) (values : ValuesAreSorted) where
-  outcome-follows : (ps : List Sent) (st : State) → Sound ps st → (x : Phrase) → Follows st.signature ps (outcome_of (context st) x st.fuel st.fresh)
+  outcome-follows : (ps : List Sent) (st : State) → IsSoundFor ps st → (x : Phrase) → Follows st.signature ps (outcome_of (context st) (environment st) x (left st))
   outcome-follows ps st sound x = record {
-    sorted = λ v left made e. values (context st) ps most_nested x st.fuel left st.fresh made v sound.valid sound.has_boolean sound.base e;
-    derives = λ p left made e. follow (context st) ps most_nested x st.fuel left st.fresh made p sound.base e;
+    sorted = λ v after e. values (context st) (environment st) ps [] most_nested x (left st) after v sound.valid sound.has_boolean sound.base e;
+    derives = λ p after e. follow (context st) (environment st) ps [] most_nested x (left st) after p sound.base e;
   }
 
-  done-does : (ps : List Sent) (st : State) → Sound ps st → (at : Pos) (s : Statement) → StatementDiffers s → DoesAll ps (done st at s)
-  done-does ps st sound at (declare_is ns params args result) differ = declare-does ps st sound at (symbols_added ns) (λ sig. tt) refl _ (after.declared st.signature ns params args result) (symbols-grown st.signature ns params args result sound.valid differ)
-  done-does ps st sound at (assert_is n closed x) differ = assert-does ps st sound (place x) (outcome_of (context st) x st.fuel st.fresh) (outcome-follows ps st sound x)
+  done-does : (ps : List Sent) (st : State) → IsSoundFor ps st → (at : Pos) (s : Statement) → StatementDiffers s → DoesAll ps (done st at s)
+  done-does ps st sound at (declare_is ns params args result) differ = declare-does ps st sound at (symbols_added ns) (λ sig. tt) refl (after.declared st.signature ns params args result) (symbols-grown st.signature ns params args result sound.valid differ)
+  done-does ps st sound at (assert_is n closed x) differ = assert-does ps st sound (place x) (outcome_of (context st) (environment st) x (left st)) (outcome-follows ps st sound x)
   done-does ps st sound at (load_is name) differ = load-does ps st sound at name
-  done-does ps st sound at (phrase_is x) differ = show-does ps st sound (outcome_of (context st) x st.fuel st.fresh) (outcome-follows ps st sound x)
-  done-does ps st sound at (domain_is n vs) differ = declare-does ps st sound at (domain_added n) (λ sig. tt) refl false (after.domain_declared st.signature n vs) (domain-grown st.signature n vs sound.valid)
+  done-does ps st sound at (phrase_is x) differ = show-does ps st sound (outcome_of (context st) (environment st) x (left st)) (outcome-follows ps st sound x)
+  done-does ps st sound at (domain_is n vs) differ = declare-does ps st sound at (domain_added n) (λ sig. tt) refl (after.domain_declared st.signature n vs) (domain-grown st.signature n vs sound.valid)
   done-does ps st sound at (datatype_is n vs cs) differ = (tt, sound)
   done-does ps st sound at (define_is n x) differ = (tt, sound)
   done-does ps st sound at (define_fun_is f xs x) differ = (tt, sound)
 
-  unless-does : (ps : List Sent) (st : State) → Sound ps st → (at : Pos) (s : Statement) → StatementDiffers s → (o : Option Pos) → DoesAll ps (unless_unbuilt st at s o)
+  unless-does : (ps : List Sent) (st : State) → IsSoundFor ps st → (at : Pos) (s : Statement) → StatementDiffers s → (o : Option Pos) → DoesAll ps (unless_unbuilt st at s o)
   unless-does ps st sound at s differ (Some inner) = (tt, sound)
   unless-does ps st sound at s differ None = done-does ps st sound at s differ
 
-  effect-does : (ps : List Sent) (st : State) → Sound ps st → (d : DirectiveTree) → DirectiveDiffers d → DoesAll ps (effect st d)
+  pub effect-does : (ps : List Sent) (st : State) → IsSoundFor ps st → (d : DirectiveTree) → DirectiveDiffers d → DoesAll ps (effect st d)
   effect-does ps st sound (directive_at at s) differ = unless-does ps st sound at s differ (unbuilt_in st.names at s)
 
 -- ---- one move
 abbrev Goes : List Sent → List Item → State → Type 0
-Goes ps [] st = Sound ps st
+Goes ps [] st = IsSoundFor ps st
 Goes ps (asks name ∷ items) st = Goes ps items st
 Goes ps (tells s ∷ items) st = IsJustified s.signature ps s.event × Goes (asserted_after ps s.event) items st
 
@@ -318,21 +318,21 @@ tells-goes c ps (e ∷ es) st t = (t.0, tells-goes c (asserted_after ps e) es st
 abbrev named : Configuration → List ℕ → Configuration
 named c name = record c { files = c.files ++ name ∷ [] }
 
-opened-goes : (ps : List Sent) (c : Configuration) → Sound ps c.state → (at : Pos) (name text : List ℕ) → GoesOn ps (opened c at name text)
+opened-goes : (ps : List Sent) (c : Configuration) → IsSoundFor ps c.state → (at : Pos) (name text : List ℕ) → GoesOn ps (opened c at name text)
 opened-goes ps c sound at name text = go (nat_lt MOST_BYTES (length text))
   where
     go : (b : Bool) → GoesOn ps (if b then goes (asks name ∷ said (named c name) (events.refused at (refusal FileTooLong [])) ∷ []) (named c name) else goes (asks name ∷ []) (record (named c name) { stack = reading_of (length c.files) text ∷ c.stack }))
     go true = (tt, sound)
     go false = sound
 
-fetched-goes : (ps : List Sent) (c : Configuration) → Sound ps c.state → (at : Pos) (name : List ℕ) (found : Option (List ℕ)) → GoesOn ps (fetched c at name found)
+fetched-goes : (ps : List Sent) (c : Configuration) → IsSoundFor ps c.state → (at : Pos) (name : List ℕ) (found : Option (List ℕ)) → GoesOn ps (fetched c at name found)
 fetched-goes ps c sound at name None = tt
 fetched-goes ps c sound at name (Some text) = opened-goes ps c sound at name text
 
-asking-goes : (texts : Texts) (ps : List Sent) (c : Configuration) → Sound ps c.state → (at : Pos) (name : List ℕ) → GoesOn ps (asking texts c at name)
+asking-goes : (texts : Texts) (ps : List Sent) (c : Configuration) → IsSoundFor ps c.state → (at : Pos) (name : List ℕ) → GoesOn ps (asking texts c at name)
 asking-goes texts ps c sound at name = fetched-goes ps c sound at name (front_of texts name MOST_ASKED)
 
-next-goes : (texts : Texts) (ps : List Sent) (c : Configuration) → Sound ps c.state → (names : List (List ℕ)) → GoesOn ps (next_file texts c names)
+next-goes : (texts : Texts) (ps : List Sent) (c : Configuration) → IsSoundFor ps c.state → (names : List (List ℕ)) → GoesOn ps (next_file texts c names)
 next-goes texts ps c sound [] = tt
 next-goes texts ps c sound (name ∷ names) = asking-goes texts ps (record c { waiting = names }) sound (beginning_of (length c.files)) name
 
@@ -357,12 +357,12 @@ next-differs r names from reading.ended h = tt
 next-differs r names from (reading.stopped e known) h = tt
 
 -- ---- a run
-goes-append : (ps : List Sent) (items more : List Item) (st last : State) → Goes ps items st → ((all : List Sent) → Sound all st → Goes all more last) → Goes ps (items ++ more) last
+goes-append : (ps : List Sent) (items more : List Item) (st last : State) → Goes ps items st → ((all : List Sent) → IsSoundFor all st → Goes all more last) → Goes ps (items ++ more) last
 goes-append ps [] more st last g on = on ps g
 goes-append ps (asks name ∷ items) more st last g on = goes-append ps items more st last g on
 goes-append ps (tells s ∷ items) more st last g on = (g.0, goes-append (asserted_after ps s.event) items more st last g.1 on)
 
-justified-append : (ps : List Sent) (items more : List Item) (st : State) → Goes ps items st → ((all : List Sent) → Sound all st → AreJustified all (said_in more)) → AreJustified ps (said_in (items ++ more))
+justified-append : (ps : List Sent) (items more : List Item) (st : State) → Goes ps items st → ((all : List Sent) → IsSoundFor all st → AreJustified all (said_in more)) → AreJustified ps (said_in (items ++ more))
 justified-append ps [] more st g on = on ps g
 justified-append ps (asks name ∷ items) more st g on = justified-append ps items more st g on
 justified-append ps (tells s ∷ items) more st g on = (g.0, justified-append (asserted_after ps s.event) items more st g.1 on)
@@ -370,18 +370,18 @@ justified-append ps (tells s ∷ items) more st g on = (g.0, justified-append (a
 pub none_said : AreBelieved []
 none_said = record { justified = tt; named = tt; lines = tt }
 
-first-sound : (fuel : ℕ) → Sound [] (first_state fuel)
+first-sound : (fuel : ℕ) → IsSoundFor [] (first_state fuel)
 first-sound fuel = record { valid = initial_valid; has_boolean = refl; base = λ p i. absurd i }
 
 module _ (follow : ConclusionsFollow) (values : ValuesAreSorted) where
-  turned-goes : (texts : Texts) (ps : List Sent) (c : Configuration) → Sound ps c.state → (r : Reading) (rs : List Reading) (n : reading.Next) → NextDiffers n → GoesOn ps (turned texts c r rs n)
+  turned-goes : (texts : Texts) (ps : List Sent) (c : Configuration) → IsSoundFor ps c.state → (r : Reading) (rs : List Reading) (n : reading.Next) → NextDiffers n → GoesOn ps (turned texts c r rs n)
   turned-goes texts ps c sound r rs (reading.whole d to known) differ =
       let e = effect (with_names known c.state) d in
       following-goes texts ps (record c { stack = record r { progress = reached to } ∷ rs; state = e.state }) (length rs) (place_of d) e.events e.next (effect-does follow values ps (with_names known c.state) (record { valid = sound.valid; has_boolean = sound.has_boolean; base = sound.base }) d differ)
   turned-goes texts ps c sound r rs reading.ended differ = sound
   turned-goes texts ps c sound r rs (reading.stopped e known) differ = (tt, record { valid = sound.valid; has_boolean = sound.has_boolean; base = sound.base })
 
-  turn-goes : (texts : Texts) (ps : List Sent) (c : Configuration) → Sound ps c.state → (stack : List Reading) (m : Move) → Turns texts c stack m → GoesOn ps m
+  turn-goes : (texts : Texts) (ps : List Sent) (c : Configuration) → IsSoundFor ps c.state → (stack : List Reading) (m : Move) → Turns texts c stack m → GoesOn ps m
   turn-goes texts ps c sound [] m t = subst (GoesOn ps) (sym t) (next-goes texts ps c sound c.waiting)
   turn-goes texts ps c sound (r ∷ rs) m t = subst (GoesOn ps) (sym t.2) (turned-goes texts ps c sound r rs t.0 (next-differs r c.state.names (reading.byte_reached r.progress) t.0 t.1))
 

@@ -8,7 +8,7 @@ use Rattle.std.specs.List.{IsDistinct}
 use Rattle.ath_names.specs.Names.{Grows, first_names}
 use Rattle.ath_names.proofs.NamesLaws.{Grows-refl, Grows-trans}
 use Rattle.ath_words.specs.Words.{Asked}
-use Rattle.ath_sorts.specs.declared.signature.SigError.{SigError}
+use Rattle.ath_sorts.specs.declared.signature.Flaw.{Flaw}
 use Rattle.ath_sorts.specs.Signature.{Signature}
 use Rattle.ath_declarations.specs.Declarations as after
 use Rattle.ath_syntax.specs.declared.place.Pos.{Pos}
@@ -21,8 +21,9 @@ use Rattle.ath_reader.specs.Reading.{Reading, reached, Front}
 use Rattle.ath_reader.specs.Ahead.{names_past}
 use Rattle.ath_reader.specs.Next as reading
 use Rattle.ath_eval.specs.Outcomes.{refusal, Outcome, gives, concludes, fails, exhausts}
-use Rattle.ath_eval.specs.Evaluation.{outcome_of, place}
-use Rattle.ath_session.specs.State.{State, context, with_left, with_names}
+use Rattle.ath_eval.specs.Evaluation.{outcome_of}
+use Rattle.ath_syntax.specs.Places.{place}
+use Rattle.ath_session.specs.State.{State, context, environment, left, with_left, with_names}
 use Rattle.ath_session.specs.Built.{unbuilt_in}
 use Rattle.ath_session.specs.Directives.{Next, goes_on, loads, ends, Effect, declaring, asserting, asserting_sentence, showing, refusing, loading, done, unless_unbuilt, effect}
 use Rattle.ath_session.specs.declared.limits.TheConstants.{MOST_BYTES, MOST_ASKED, MOST_LOADS}
@@ -66,24 +67,24 @@ whole_lines names (tells s ∷ items) last h = (h.2, whole_lines s.names items l
 abbrev HasNames : List (List ℕ) → Effect → Type 0
 HasNames names e = e.state.names ≡ names
 
-declaring_names : (st : State) (at : Pos) (x : events.Event) (unlisted : Bool) (o : Result Signature SigError) → HasNames st.names (declaring st at x unlisted o)
-declaring_names st at x unlisted (Ok sig) = refl
-declaring_names st at x unlisted (Err e) = refl
+declaring_names : (st : State) (at : Pos) (x : events.Event) (o : Result Signature Flaw) → HasNames st.names (declaring st at x o)
+declaring_names st at x (Ok sig) = refl
+declaring_names st at x (Err e) = refl
 
 sentence_names : (st : State) (at : Pos) (p : Option Sent) → HasNames st.names (asserting_sentence st at p)
 sentence_names st at (Some p) = refl
 sentence_names st at None = refl
 
 asserting_names : (st : State) (at : Pos) (o : Outcome) → HasNames st.names (asserting st at o)
-asserting_names st at (gives v left made) = sentence_names (with_left st left made) at (sentence_of v)
-asserting_names st at (concludes p left made) = refl
-asserting_names st at (fails inner why left made) = refl
+asserting_names st at (gives v after) = sentence_names (with_left st after) at (sentence_of v)
+asserting_names st at (concludes p after) = refl
+asserting_names st at (fails inner why after) = refl
 asserting_names st at (exhausts inner made) = refl
 
 showing_names : (st : State) (o : Outcome) → HasNames st.names (showing st o)
-showing_names st (gives v left made) = refl
-showing_names st (concludes p left made) = refl
-showing_names st (fails at why left made) = refl
+showing_names st (gives v after) = refl
+showing_names st (concludes p after) = refl
+showing_names st (fails at why after) = refl
 showing_names st (exhausts at made) = refl
 
 loading_names : (st : State) (at : Pos) (name : List ℕ) → HasNames st.names (loading st at name)
@@ -94,11 +95,11 @@ loading_names st at name = go (is_utf8 name)
     go false = refl
 
 done_names : (st : State) (at : Pos) (s : Statement) → HasNames st.names (done st at s)
-done_names st at (declare_is ns params args result) = declaring_names st at (events.symbols_added ns) _ (after.declared st.signature ns params args result)
-done_names st at (assert_is n closed x) = asserting_names st (place x) (outcome_of (context st) x st.fuel st.fresh)
+done_names st at (declare_is ns params args result) = declaring_names st at (events.symbols_added ns) (after.declared st.signature ns params args result)
+done_names st at (assert_is n closed x) = asserting_names st (place x) (outcome_of (context st) (environment st) x (left st))
 done_names st at (load_is name) = loading_names st at name
-done_names st at (phrase_is x) = showing_names st (outcome_of (context st) x st.fuel st.fresh)
-done_names st at (domain_is n vs) = declaring_names st at (events.domain_added n) false (after.domain_declared st.signature n vs)
+done_names st at (phrase_is x) = showing_names st (outcome_of (context st) (environment st) x (left st))
+done_names st at (domain_is n vs) = declaring_names st at (events.domain_added n) (after.domain_declared st.signature n vs)
 done_names st at (datatype_is n vs cs) = refl
 done_names st at (define_is n x) = refl
 done_names st at (define_fun_is f xs x) = refl

@@ -5,7 +5,7 @@ use Rattle.std.specs.Str.{bytes_eq}
 use Rattle.ath_syntax.specs.declared.place.Pos.{Pos}
 use Rattle.ath_syntax.specs.Tree.{Phrase, name_at, variable_at, ascribe_at, apply_at, call_at, Phrases, no_phrases, more_phrases, is_deduction, Statement, domain_is, datatype_is, declare_is, define_is, define_fun_is, assert_is, load_is, phrase_is}
 use Rattle.ath_env.specs.LookUp.{text_of}
-use Rattle.ath_eval.specs.Evaluation.{place}
+use Rattle.ath_syntax.specs.Places.{place}
 
 -- whether a phrase is the name that is written so
 abbrev pub is_name : List (List ℕ) → List ℕ → Phrase → Bool

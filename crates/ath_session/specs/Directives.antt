@@ -3,21 +3,22 @@
 use Rattle.std.specs.Prelude.{ℕ, Bool, true, false, List, [], ◌∷◌, Option, Some, None, Result, Ok, Err, if◌then◌else◌}
 use Rattle.std.specs.Str.{is_utf8}
 use Rattle.ath_sorts.specs.declared.sorts.Sym.{Sym}
-use Rattle.ath_sorts.specs.declared.signature.SigError.{SigError}
-use Rattle.ath_sorts.specs.declared.signature.SigError.TheVariants as code
+use Rattle.ath_sorts.specs.declared.signature.Flaw.{Flaw}
+use Rattle.ath_sorts.specs.declared.signature.Flaw.TheVariants as flaw
 use Rattle.ath_sorts.specs.Signature.{Signature}
 use Rattle.ath_declarations.specs.Declarations as after
-use Rattle.ath_declarations.specs.Unlisted.{is_unlisted}
 use Rattle.ath_syntax.specs.declared.place.Pos.{Pos}
-use Rattle.ath_syntax.specs.Tree.{Statement, domain_is, datatype_is, declare_is, define_is, define_fun_is, assert_is, load_is, phrase_is, DirectiveTree, directive_at}
+use Rattle.ath_syntax.specs.Tree.{Phrase, Statement, domain_is, datatype_is, declare_is, define_is, define_fun_is, assert_is, load_is, phrase_is, DirectiveTree, directive_at}
 use Rattle.ath_terms.specs.declared.fresh.Fresh.{Fresh}
 use Rattle.ath_trees.specs.Tree.{Sent}
 use Rattle.ath_env.specs.Values.{sentence_of}
 use Rattle.ath_print.specs.declared.fault.FaultKind.TheVariants.{BadUtf8, NotBuilt, NotSentence, Redeclared, TooWide, UnknownSort, Arity, SortTooLarge, LooseParam}
-use Rattle.ath_print.specs.Events.{Argument, name_named, variable_named, Refusal, Event, domain_added, symbols_added, asserted, proved, shown, refused, exhausted}
-use Rattle.ath_eval.specs.Outcomes.{Outcome, gives, concludes, fails, exhausts, refusal}
-use Rattle.ath_eval.specs.Evaluation.{outcome_of, place}
-use Rattle.ath_session.specs.State.{State, context, with_left, with_signature, joining}
+use Rattle.ath_print.specs.Events.{name_named, variable_named, Refusal, Event, domain_added, symbols_added, asserted, proved, shown, refused, exhausted}
+use Rattle.ath_eval.specs.Outcomes.{left_of, Outcome, gives, concludes, fails, exhausts, refusal}
+use Rattle.ath_eval.specs.Evaluation.{outcome_of}
+use Rattle.ath_syntax.specs.Places.{place}
+use Rattle.ath_base.specs.declared.entry.Origin.TheVariants.{Asserted, Concluded}
+use Rattle.ath_session.specs.State.{State, context, environment, left, with_left, with_signature, joining}
 use Rattle.ath_session.specs.Built.{unbuilt_in}
 
 -- how the run goes on: with the next directive; with the text of a file in the directive's place; or not at all
@@ -38,59 +39,58 @@ telling st e = record { state = st; events = e ∷ []; next = goes_on }
 abbrev pub refusing : State → Pos → Refusal → Effect
 refusing st at why = telling st (refused at why)
 
--- an unknown sort is told by its name, or as the sort variable that isn't listed
-abbrev pub unknown_sort : Bool → Sym → Argument
-unknown_sort true n = variable_named n
-unknown_sort false n = name_named n
-
--- why a declaration is refused; `unlisted` says whether the first bad place is a sort variable
-abbrev pub declaration_refusal : Bool → SigError → Refusal
-declaration_refusal unlisted (code.Redeclared n) = refusal Redeclared (name_named n ∷ [])
-declaration_refusal unlisted (code.TooWide n) = refusal TooWide (name_named n ∷ [])
-declaration_refusal unlisted (code.UnknownSort n) = refusal UnknownSort (unknown_sort unlisted n ∷ [])
-declaration_refusal unlisted (code.Arity n) = refusal Arity (name_named n ∷ [])
-declaration_refusal unlisted code.SortTooLarge = refusal SortTooLarge []
-declaration_refusal unlisted (code.LooseParam n) = refusal LooseParam (variable_named n ∷ [])
-declaration_refusal unlisted code.Memory = refusal NotBuilt []
+-- why a declaration is refused; an unknown sort is told by its name, or as the sort variable that isn't listed
+abbrev pub declaration_refusal : Flaw → Refusal
+declaration_refusal (flaw.Redeclared n) = refusal Redeclared (name_named n ∷ [])
+declaration_refusal (flaw.TooWide n) = refusal TooWide (name_named n ∷ [])
+declaration_refusal (flaw.UnknownVariable n) = refusal UnknownSort (variable_named n ∷ [])
+declaration_refusal (flaw.UnknownSort n) = refusal UnknownSort (name_named n ∷ [])
+declaration_refusal (flaw.Arity n) = refusal Arity (name_named n ∷ [])
+declaration_refusal flaw.SortTooLarge = refusal SortTooLarge []
+declaration_refusal (flaw.LooseParam n) = refusal LooseParam (variable_named n ∷ [])
 
 -- a domain or symbols are declared, or they are refused
-abbrev pub declaring : State → Pos → Event → Bool → Result Signature SigError → Effect
-declaring st at told unlisted (Ok sig) = telling (with_signature st sig) told
-declaring st at told unlisted (Err e) = refusing st at (declaration_refusal unlisted e)
+abbrev pub declaring : State → Pos → Event → Result Signature Flaw → Effect
+declaring st at told (Ok sig) = telling (with_signature st sig) told
+declaring st at told (Err f) = refusing st at (declaration_refusal f)
 
 -- no fuel is left, and the run ends
 abbrev pub ending : State → Pos → Fresh → Effect
-ending st at made = record { state = with_left st 0 made; events = exhausted at ∷ []; next = ends }
+ending st at made = record { state = with_left st (left_of 0 made); events = exhausted at ∷ []; next = ends }
 
 -- a sentence joins the base as asserted
 abbrev pub asserting_sentence : State → Pos → Option Sent → Effect
-asserting_sentence st at (Some p) = telling (joining st p) (asserted p)
+asserting_sentence st at (Some p) = telling (joining st Asserted p) (asserted p)
 asserting_sentence st at None = refusing st at (refusal NotSentence [])
 
 abbrev pub asserting : State → Pos → Outcome → Effect
-asserting st at (gives v left made) = asserting_sentence (with_left st left made) at (sentence_of v)
-asserting st at (concludes p left made) = asserting_sentence (with_left st left made) at (Some p)
-asserting st at (fails inner why left made) = refusing (with_left st left made) inner why
+asserting st at (gives v after) = asserting_sentence (with_left st after) at (sentence_of v)
+asserting st at (concludes p after) = asserting_sentence (with_left st after) at (Some p)
+asserting st at (fails inner why after) = refusing (with_left st after) inner why
 asserting st at (exhausts inner made) = ending st inner made
 
 -- a conclusion joins the base, and a value is shown
 abbrev pub showing : State → Outcome → Effect
-showing st (gives v left made) = telling (with_left st left made) (shown v)
-showing st (concludes p left made) = telling (joining (with_left st left made) p) (proved p)
-showing st (fails at why left made) = refusing (with_left st left made) at why
+showing st (gives v after) = telling (with_left st after) (shown v)
+showing st (concludes p after) = telling (joining (with_left st after) Concluded p) (proved p)
+showing st (fails at why after) = refusing (with_left st after) at why
 showing st (exhausts at made) = ending st at made
 
 -- no text spells a name that isn't UTF-8
 abbrev pub loading : State → Pos → List ℕ → Effect
 loading st at name = if is_utf8 name then record { state = st; events = []; next = loads name } else refusing st at (refusal BadUtf8 [])
 
+-- the outcome of a phrase in this state
+abbrev pub outcome_in : State → Phrase → Outcome
+outcome_in st x = outcome_of (context st) (environment st) x (left st)
+
 -- a directive that is built
 abbrev pub done : State → Pos → Statement → Effect
-done st at (domain_is n vs) = declaring st at (domain_added n) false (after.domain_declared st.signature n vs)
-done st at (declare_is ns params args result) = declaring st at (symbols_added ns) (is_unlisted st.signature params args result) (after.declared st.signature ns params args result)
-done st at (assert_is n closed x) = asserting st (place x) (outcome_of (context st) x st.fuel st.fresh)
+done st at (domain_is n vs) = declaring st at (domain_added n) (after.domain_declared st.signature n vs)
+done st at (declare_is ns params args result) = declaring st at (symbols_added ns) (after.declared st.signature ns params args result)
+done st at (assert_is n closed x) = asserting st (place x) (outcome_in st x)
 done st at (load_is name) = loading st at name
-done st at (phrase_is x) = showing st (outcome_of (context st) x st.fuel st.fresh)
+done st at (phrase_is x) = showing st (outcome_in st x)
 done st at (datatype_is n vs cs) = refusing st at (refusal NotBuilt [])
 done st at (define_is n x) = refusing st at (refusal NotBuilt [])
 done st at (define_fun_is f xs x) = refusing st at (refusal NotBuilt [])

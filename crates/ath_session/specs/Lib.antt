@@ -8,6 +8,7 @@ pub mod Report
 pub mod Run
 pub mod Said
 pub mod Session
+pub mod Sound
 pub mod State
 pub mod Steps
 pub mod Theorems

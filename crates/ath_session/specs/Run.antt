@@ -16,7 +16,7 @@ use Rattle.ath_eval.specs.Outcomes.{refusal}
 use Rattle.ath_session.specs.declared.limits.TheConstants.{MOST_BYTES, MOST_ASKED, MOST_LOADS}
 use Rattle.ath_session.specs.Said.{Said}
 use Rattle.ath_session.specs.State.{State, with_names}
-use Rattle.ath_session.specs.Directives.{Next, goes_on, loads, ends, effect}
+use Rattle.ath_session.specs.Directives.{Next, goes_on, loads, ends, Effect, effect}
 
 -- what a run does that is seen: it asks for the text of a name, or tells an event
 pub data Item : Type 0 where
@@ -80,14 +80,29 @@ next_file texts c (name ∷ names) = asking texts (record c { waiting = names })
 abbrev pub tell_all : Configuration → List events.Event → List Item
 tell_all c es = map (said c) es
 
+-- events are told, and nothing else changes
+abbrev pub saying_all : Configuration → List events.Event → Move
+saying_all c es = goes (tell_all c es) c
+
+abbrev pub saying : Configuration → events.Event → Move
+saying c e = goes (said c e ∷ []) c
+
 -- what goes on after a directive; `outer` is the number of texts that are open around its own
 abbrev pub following : List (List ℕ × List ℕ) → Configuration → ℕ → Pos → List events.Event → Next → Move
-following texts c outer at es goes_on = goes (tell_all c es) c
+following texts c outer at es goes_on = saying_all c es
 following texts c outer at es ends = halts (tell_all c es) out_of_fuel
 following texts c outer at es (loads name) =
     if nat_lt outer MOST_LOADS
     then asking texts c at name
-    else goes (said c (events.refused at (refusal TooManyLoads [])) ∷ []) c
+    else saying c (events.refused at (refusal TooManyLoads []))
+
+-- what goes on after a directive with this effect
+abbrev pub taking : List (List ℕ × List ℕ) → Configuration → ℕ → Pos → Effect → Move
+taking texts c outer at e = following texts (record c { state = e.state }) outer at e.events e.next
+
+-- a text is open, and the innermost one
+abbrev pub with_open : Reading → Configuration → Configuration
+with_open r c = record c { stack = r ∷ c.stack }
 
 -- a syntax error has the kind of its fault
 abbrev pub lexical_kind : LexKind → FaultKind
@@ -112,12 +127,10 @@ place_of (directive_at at s) = at
 -- the innermost text is read on: a directive is run, a syntax error is told and ends the text, and so does its end
 abbrev pub turned : List (List ℕ × List ℕ) → Configuration → Reading → List Reading → reading.Next → Move
 turned texts c r rs (reading.whole d to known) =
-    let e = effect (with_names known c.state) d in
-    following texts (record c { stack = record r { progress = reached to } ∷ rs; state = e.state }) (length rs) (place_of d) e.events e.next
+    taking texts (record c { stack = record r { progress = reached to } ∷ rs }) (length rs) (place_of d) (effect (with_names known c.state) d)
 turned texts c r rs reading.ended = goes [] (record c { stack = rs })
 turned texts c r rs (reading.stopped e known) =
-    let after = record c { stack = rs; state = with_names known c.state } in
-    goes (said after (events.refused e.pos (refusal (fault_kind e.kind) [])) ∷ []) after
+    saying (record c { stack = rs; state = with_names known c.state }) (events.refused e.pos (refusal (fault_kind e.kind) []))
 
 -- the next step, by whether a text is open
 abbrev pub Turns : List (List ℕ × List ℕ) → Configuration → List Reading → Move → Type 0

@@ -5,12 +5,12 @@ use Rattle.ath_sorts.specs.Validity.{AreDistinct}
 use Rattle.ath_syntax.specs.declared.directive.What.{What}
 use Rattle.ath_syntax.specs.declared.directive.What.TheVariants.{Declare}
 use Rattle.ath_terms.specs.SortsIn.{IsSortedIn}
-use Rattle.ath_terms.specs.Trees.{Trees}
+use Rattle.ath_terms.specs.Trees.{Trees, Grows}
 use Rattle.ath_print.specs.declared.event.Event as told
 use Rattle.ath_print.specs.Events.{Event}
 use Rattle.ath_print.specs.Stands.{event_of, IsEventIn}
 use Rattle.ath_eval.specs.declared.world.World.{World}
-use Rattle.ath_eval.specs.Base.{sents_of}
+use Rattle.ath_base.specs.Stands.{entries_of}
 use Rattle.ath_session.specs.declared.session.Next as answer
 use Rattle.ath_session.specs.declared.session.Next.TheVariants as code
 use Rattle.ath_session.specs.declared.session.Reply.{Reply}
@@ -18,7 +18,7 @@ use Rattle.ath_session.specs.State.{State}
 use Rattle.ath_session.specs.Directives.{Next, goes_on, loads, ends, Effect}
 
 abbrev pub state_of : World → State
-state_of w = record { names = w.names; signature = w.sig; base = sents_of w.store w.base.items; fuel = w.fuel; fresh = w.fresh }
+state_of w = record { names = w.names; signature = w.sig; base = entries_of w.store w.base.entries.items; fuel = w.fuel; fresh = w.fresh }
 
 -- what is declared is valid, and the trees of the store are well-sorted in it
 abbrev pub IsSorted : World → Type 0
@@ -44,7 +44,8 @@ pub record IsReply (w : World) (r : Reply) (e : Effect) : Type 0 where
   pub next : next_of r.next ≡ e.next
   pub state : state_of w ≡ e.state
 
--- what a directive, a reading and a refusal of a text keep
-pub record KeepsText (old new : World) : Type 0 where
+-- what a directive keeps, also where memory is wanted: the names, and what each number of a phrase, a term or a sentence stood for
+pub record KeepsNumbers (old new : World) : Type 0 where
   pub names : new.names ≡ old.names
   pub phrases : new.phrases ≡ old.phrases
+  pub store : Grows old.store new.store

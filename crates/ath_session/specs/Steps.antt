@@ -1,6 +1,10 @@
 -- What a step of a run has done.
-use Rattle.std.specs.Prelude.{◌≡◌, ◌⊎◌, ℕ, ◌+◌, ◌-◌, ◌*◌, ◌^◌, ◌<◌, ◌≤◌, Bool, true, false, ◌||◌, List, [], ◌∷◌, ◌++◌, length, map, drop, take, reverse, string_bytes}
+use Rattle.std.specs.Prelude.{◌≡◌, ◌⊎◌, ℕ, ◌+◌, ◌-◌, ◌*◌, ◌^◌, ◌<◌, ◌≤◌, Bool, true, false, ◌||◌, List, [], ◌∷◌, ◌++◌, length, map, drop, take, reverse, string_bytes, Option}
 use Rattle.std.specs.List.{All}
+use Rattle.ath_io.specs.Shelf.{Texts}
+use Rattle.ath_io.specs.Sink.{Held}
+use Rattle.ath_syntax.specs.declared.place.Pos.{Pos}
+use Rattle.ath_syntax.specs.Tree.{DirectiveTree}
 use Rattle.ath_reader.specs.Reading.{Reading, Progress, reached, refused}
 use Rattle.ath_session.specs.declared.status.Status.{Status}
 use Rattle.ath_session.specs.declared.status.Status.TheVariants.{Clean, Errors, Usage, Fuel, SourceFault, SinkFault, Memory}
@@ -9,8 +13,9 @@ use Rattle.ath_session.specs.declared.desk.Flow.{Flow}
 use Rattle.ath_session.specs.declared.desk.Flow.TheVariants.{On, End}
 use Rattle.ath_session.specs.declared.limits.TheConstants.{MOST_BYTES}
 use Rattle.ath_session.specs.Said.{Said, line_said}
-use Rattle.ath_session.specs.Run.{Item, asks, tells, Configuration, reading_of, Move, goes, halts, items_of, all_run, out_of_fuel}
+use Rattle.ath_session.specs.Run.{Item, asks, tells, Configuration, reading_of, Move, goes, halts, items_of, all_run, out_of_fuel, taking}
 use Rattle.ath_session.specs.Report.{has_error}
+use Rattle.ath_session.specs.Directives.{effect}
 use Rattle.ath_session.specs.Session.{state_of}
 use Rattle.ath_session.specs.State.{first_state}
 use Rattle.ath_session.specs.Ends.{Outside, after_items, after_part}
@@ -47,6 +52,18 @@ Ended m Usage errors o o' = ⊥
 abbrev pub Did : Move → Flow → Bool → Bool → Configuration → Outside → Outside → Type 0
 Did m On before after c o o' = (items : List Item) × ((m ≡ goes items c) × (after ≡ (before || has_error items)) × (o' ≡ after_items o items))
 Did m (End status) before after c o o' = Ended m status before o o'
+
+-- what a step of a desk has done of a move
+abbrev pub DeskDid : Move → Flow → Desk → Desk → Outside → Outside → Type 0
+DeskDid m flow old new before after = Did m flow old.errors new.errors (configuration_of new) before after
+
+abbrev pub outside : Option Texts → Option Held → Outside
+outside texts held = record { shelf = texts; sink = held }
+
+-- what a desk has done of a directive of its innermost text, and of what goes on after it
+abbrev pub DidDirective : List (List ℕ × List ℕ) → Pos → DirectiveTree → Flow → Desk → Desk → Outside → Outside → Type 0
+DidDirective texts at d flow old new before after =
+    DeskDid (taking texts (configuration_of old) (length old.open.items - 1) at (effect (configuration_of old).state d)) flow old new before after
 
 -- a text has been read up to a byte of it
 abbrev pub IsGoing : Reading → Type 0

@@ -3,6 +3,7 @@ use Rattle.std.specs.Prelude.{List, [], ◌∷◌, ◌++◌}
 use Rattle.ath_sorts.specs.Signature.{Signature}
 use Rattle.ath_trees.specs.Tree.{Sent}
 use Rattle.ath_calculus.specs.Derives.{Derives}
+use Rattle.ath_calculus.specs.Theory.{theory_of}
 use Rattle.ath_print.specs.Events.{Role, an_assertion, a_theorem, role_of, Event}
 use Rattle.ath_session.specs.Said.{Said}
 
@@ -16,7 +17,7 @@ asserted_after ps e = asserted_by ps (role_of e)
 
 -- a theorem is derivable under no hypotheses; other events claim nothing
 abbrev pub IsJustifiedRole : Signature → List Sent → Role → Type 0
-IsJustifiedRole sig ps (a_theorem p) = Derives sig ps [] p
+IsJustifiedRole sig ps (a_theorem p) = Derives (theory_of sig) ps [] p
 IsJustifiedRole sig ps _ = Unit {0}
 
 abbrev pub IsJustified : Signature → List Sent → Event → Type 0

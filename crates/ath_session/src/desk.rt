@@ -12,10 +12,8 @@ ghost use Rattle.ath_print.specs.Stands.{event_of, IsEventIn};
 ghost use Rattle.ath_terms.specs.Trees.{Trees};
 ghost use Rattle.ath_session.specs.declared.desk.Flow.TheVariants.{On, End};
 ghost use Rattle.ath_session.specs.declared.status.Status.TheVariants.{SourceFault as SourceFailed, SinkFault as SinkFailed, Usage as Unused};
-ghost use Rattle.ath_session.specs.Directives.{effect};
-ghost use Rattle.ath_session.specs.Ends.{Outside};
-ghost use Rattle.ath_session.specs.Run.{Move, Moves, goes, said, tell_all, asking, next_file, following, lexical_kind, fault_kind};
-ghost use Rattle.ath_session.specs.Steps.{configuration_of, Did, AreGoing, Opens, IsOpened, weight};
+ghost use Rattle.ath_session.specs.Run.{Move, Moves, saying, saying_all, asking, next_file, with_open, lexical_kind, fault_kind};
+ghost use Rattle.ath_session.specs.Steps.{configuration_of, outside, DeskDid, DidDirective, AreGoing, Opens, IsOpened, weight};
 ghost use Rattle.ath_session.specs.Session.{state_of, IsSorted, ParamsDiffer};
 
 use crate::limits::{MOST_ASKED, MOST_BYTES, MOST_LOADS, MOST_OPEN};
@@ -58,7 +56,7 @@ fn tell<K: Sink>(alloc: Global, desk: &mut Desk, event: &Event, sink: &mut K) ->
     requires known { IsEventIn desk.old.session.world.store event.now }
     requires sorted { IsSorted desk.old.session.world }
     ensures kept { desk.new ≡ record desk.old { errors = desk.new.errors } }
-    ensures did { (told : Option Texts) → Did (goes (said (configuration_of desk.old) (event_of desk.old.session.world.store event.now) ∷ []) (configuration_of desk.old)) result desk.old.errors desk.new.errors (configuration_of desk.new) (record { shelf = told; sink = K.told sink.old }) (record { shelf = told; sink = K.told sink.new }) }
+    ensures did { (told : Option Texts) → DeskDid (saying (configuration_of desk.old) (event_of desk.old.session.world.store event.now)) result desk.old desk.new (outside told (K.told sink.old)) (outside told (K.told sink.new)) }
     ensures sink_later { K.faults sink.old ≤ K.faults sink.new }
     ensures sink_cause { result ≡ End SinkFailed → Rose (K.faults sink.old) (K.faults sink.new) }
     ensures no_source { result ≡ End SourceFailed → ⊥ }
@@ -87,7 +85,7 @@ fn tell_all<K: Sink>(alloc: Global, desk: &mut Desk, events: &[Event], sink: &mu
     requires known { All (IsEventIn desk.old.session.world.store) events.now }
     requires sorted { IsSorted desk.old.session.world }
     ensures kept { desk.new ≡ record desk.old { errors = desk.new.errors } }
-    ensures did { (told : Option Texts) → Did (goes (tell_all (configuration_of desk.old) (map (event_of desk.old.session.world.store) events.now)) (configuration_of desk.old)) result desk.old.errors desk.new.errors (configuration_of desk.new) (record { shelf = told; sink = K.told sink.old }) (record { shelf = told; sink = K.told sink.new }) }
+    ensures did { (told : Option Texts) → DeskDid (saying_all (configuration_of desk.old) (map (event_of desk.old.session.world.store) events.now)) result desk.old desk.new (outside told (K.told sink.old)) (outside told (K.told sink.new)) }
     ensures sink_later { K.faults sink.old ≤ K.faults sink.new }
     ensures sink_cause { result ≡ End SinkFailed → Rose (K.faults sink.old) (K.faults sink.new) }
     ensures no_source { result ≡ End SourceFailed → ⊥ }
@@ -111,7 +109,7 @@ fn tell_fault<K: Sink>(
 ) -> Flow
     requires { IsSorted desk.old.session.world }
     ensures kept { desk.new ≡ record desk.old { errors = desk.new.errors } }
-    ensures did { (told : Option Texts) → Did (goes (said (configuration_of desk.old) (refused at (refusal kind [])) ∷ []) (configuration_of desk.old)) result desk.old.errors desk.new.errors (configuration_of desk.new) (record { shelf = told; sink = K.told sink.old }) (record { shelf = told; sink = K.told sink.new }) }
+    ensures did { (told : Option Texts) → DeskDid (saying (configuration_of desk.old) (refused at (refusal kind []))) result desk.old desk.new (outside told (K.told sink.old)) (outside told (K.told sink.new)) }
     ensures sink_later { K.faults sink.old ≤ K.faults sink.new }
     ensures sink_cause { result ≡ End SinkFailed → Rose (K.faults sink.old) (K.faults sink.new) }
     ensures no_source { result ≡ End SourceFailed → ⊥ }
@@ -132,7 +130,7 @@ fn ask<S: Shelf, K: Sink>(
 ) -> Flow
     requires { IsSorted desk.old.session.world }
     ensures session { desk.new.session ≡ desk.old.session }
-    ensures did { (t : Texts) → S.told shelf.old ≡ Some t → Did (asking t.texts (configuration_of desk.old) at name.now) result desk.old.errors desk.new.errors (configuration_of desk.new) (record { shelf = S.told shelf.old; sink = K.told sink.old }) (record { shelf = S.told shelf.new; sink = K.told sink.new }) }
+    ensures did { (t : Texts) → S.told shelf.old ≡ Some t → DeskDid (asking t.texts (configuration_of desk.old) at name.now) result desk.old desk.new (outside (S.told shelf.old) (K.told sink.old)) (outside (S.told shelf.new) (K.told sink.new)) }
     ensures opens { result ≡ On → Opens (configuration_of desk.old) (configuration_of desk.new) }
     ensures source_later { S.faults shelf.old ≤ S.faults shelf.new }
     ensures source_cause { result ≡ End SourceFailed → Rose (S.faults shelf.old) (S.faults shelf.new) }
@@ -200,7 +198,7 @@ fn next_file<S: Shelf, K: Sink>(alloc: Global, desk: &mut Desk, shelf: &mut S, s
     requires empty { desk.old.open.items ≡ [] }
     requires sorted { IsSorted desk.old.session.world }
     ensures session { desk.new.session ≡ desk.old.session }
-    ensures did { (t : Texts) → S.told shelf.old ≡ Some t → Did (next_file t.texts (configuration_of desk.old) (configuration_of desk.old).waiting) result desk.old.errors desk.new.errors (configuration_of desk.new) (record { shelf = S.told shelf.old; sink = K.told sink.old }) (record { shelf = S.told shelf.new; sink = K.told sink.new }) }
+    ensures did { (t : Texts) → S.told shelf.old ≡ Some t → DeskDid (next_file t.texts (configuration_of desk.old) (configuration_of desk.old).waiting) result desk.old desk.new (outside (S.told shelf.old) (K.told sink.old)) (outside (S.told shelf.new) (K.told sink.new)) }
     ensures going { result ≡ On → AreGoing (configuration_of desk.new) }
     ensures shallow { result ≡ On → length desk.new.open.items ≤ MOST_OPEN }
     ensures falls { result ≡ On → weight (configuration_of desk.new) < weight (configuration_of desk.old) }
@@ -242,7 +240,7 @@ fn run_directive<S: Shelf, K: Sink>(
     requires differ { ParamsDiffer directive.now.what }
     requires sorted { IsSorted desk.old.session.world }
     ensures sorted { IsSorted desk.new.session.world }
-    ensures did { (t : Texts) (d : DirectiveTree) → S.told shelf.old ≡ Some t → IsDirective desk.old.session.world.phrases directive.now d → Did (following t.texts (record (configuration_of desk.old) { state = (effect (configuration_of desk.old).state d).state }) (length desk.old.open.items - 1) directive.now.pos (effect (configuration_of desk.old).state d).events (effect (configuration_of desk.old).state d).next) result desk.old.errors desk.new.errors (configuration_of desk.new) (record { shelf = S.told shelf.old; sink = K.told sink.old }) (record { shelf = S.told shelf.new; sink = K.told sink.new }) }
+    ensures did { (t : Texts) (d : DirectiveTree) → S.told shelf.old ≡ Some t → IsDirective desk.old.session.world.phrases directive.now d → DidDirective t.texts directive.now.pos d result desk.old desk.new (outside (S.told shelf.old) (K.told sink.old)) (outside (S.told shelf.new) (K.told sink.new)) }
     ensures opens { result ≡ On → Opens (configuration_of desk.old) (configuration_of desk.new) }
     ensures shallow { result ≡ On → length desk.old.open.items ≤ MOST_OPEN → length desk.new.open.items ≤ MOST_OPEN }
     ensures source_later { S.faults shelf.old ≤ S.faults shelf.new }
@@ -274,7 +272,7 @@ fn refuse_text<K: Sink>(alloc: Global, desk: &mut Desk, error: SyntaxError, sink
     requires { IsSorted desk.old.session.world }
     ensures kept { desk.new ≡ record desk.old { errors = desk.new.errors } }
     ensures memory { error.kind ≡ SyntaxKind.Memory → (result ≡ End Status.Memory) × (K.told sink.new ≡ K.told sink.old) }
-    ensures did { (error.kind ≡ SyntaxKind.Memory → ⊥) → (told : Option Texts) → Did (goes (said (configuration_of desk.old) (refused error.pos (refusal (fault_kind error.kind) [])) ∷ []) (configuration_of desk.old)) result desk.old.errors desk.new.errors (configuration_of desk.new) (record { shelf = told; sink = K.told sink.old }) (record { shelf = told; sink = K.told sink.new }) }
+    ensures did { (error.kind ≡ SyntaxKind.Memory → ⊥) → (told : Option Texts) → DeskDid (saying (configuration_of desk.old) (refused error.pos (refusal (fault_kind error.kind) []))) result desk.old desk.new (outside told (K.told sink.old)) (outside told (K.told sink.new)) }
     ensures sink_later { K.faults sink.old ≤ K.faults sink.new }
     ensures sink_cause { result ≡ End SinkFailed → Rose (K.faults sink.old) (K.faults sink.new) }
     ensures no_source { result ≡ End SourceFailed → ⊥ }
@@ -296,12 +294,12 @@ fn read_on<S: Shelf, K: Sink>(
 ) -> Flow
     requires shallow { length desk.old.open.items ≤ MOST_LOADS }
     requires sorted { IsSorted desk.old.session.world }
-    requires going { AreGoing (record (configuration_of desk.old) { stack = reader ∷ (configuration_of desk.old).stack }) }
+    requires going { AreGoing (with_open reader (configuration_of desk.old)) }
     ensures sorted { IsSorted desk.new.session.world }
-    ensures did { (t : Texts) (m : Move) → S.told shelf.old ≡ Some t → Moves t.texts (record (configuration_of desk.old) { stack = reader ∷ (configuration_of desk.old).stack }) m → Did m result desk.old.errors desk.new.errors (configuration_of desk.new) (record { shelf = S.told shelf.old; sink = K.told sink.old }) (record { shelf = S.told shelf.new; sink = K.told sink.new }) }
+    ensures did { (t : Texts) (m : Move) → S.told shelf.old ≡ Some t → Moves t.texts (with_open reader (configuration_of desk.old)) m → DeskDid m result desk.old desk.new (outside (S.told shelf.old) (K.told sink.old)) (outside (S.told shelf.new) (K.told sink.new)) }
     ensures going { result ≡ On → AreGoing (configuration_of desk.new) }
     ensures shallow { result ≡ On → length desk.new.open.items ≤ MOST_OPEN }
-    ensures falls { result ≡ On → weight (configuration_of desk.new) < weight (record (configuration_of desk.old) { stack = reader ∷ (configuration_of desk.old).stack }) }
+    ensures falls { result ≡ On → weight (configuration_of desk.new) < weight (with_open reader (configuration_of desk.old)) }
     ensures source_later { S.faults shelf.old ≤ S.faults shelf.new }
     ensures source_cause { result ≡ End SourceFailed → Rose (S.faults shelf.old) (S.faults shelf.new) }
     ensures sink_later { K.faults sink.old ≤ K.faults sink.new }
@@ -332,7 +330,7 @@ pub(crate) fn advance<S: Shelf, K: Sink>(
     requires sorted { IsSorted desk.old.session.world }
     requires going { AreGoing (configuration_of desk.old) }
     ensures sorted { IsSorted desk.new.session.world }
-    ensures did { (t : Texts) (m : Move) → S.told shelf.old ≡ Some t → Moves t.texts (configuration_of desk.old) m → Did m result desk.old.errors desk.new.errors (configuration_of desk.new) (record { shelf = S.told shelf.old; sink = K.told sink.old }) (record { shelf = S.told shelf.new; sink = K.told sink.new }) }
+    ensures did { (t : Texts) (m : Move) → S.told shelf.old ≡ Some t → Moves t.texts (configuration_of desk.old) m → DeskDid m result desk.old desk.new (outside (S.told shelf.old) (K.told sink.old)) (outside (S.told shelf.new) (K.told sink.new)) }
     ensures going { result ≡ On → AreGoing (configuration_of desk.new) }
     ensures shallow { result ≡ On → length desk.new.open.items ≤ MOST_OPEN }
     ensures falls { result ≡ On → weight (configuration_of desk.new) < weight (configuration_of desk.old) }

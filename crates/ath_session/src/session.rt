@@ -3,30 +3,33 @@
 ghost use Rattle.std.specs.Prelude.{◌≡◌, ◌≤◌, ◌<◌, false, [], ◌∷◌, ◌++◌, IfOk, IfSome, OnOk, Some, None, Option, length, map, take};
 ghost use Rattle.ath_names.specs.Names.{first_names};
 ghost use Rattle.ath_sorts.specs.Validity.{AreDistinct};
+ghost use Rattle.ath_sorts.specs.declared.signature.Flaw.{Flaw};
 ghost use Rattle.ath_syntax.specs.Stands.{IsDirective, IsPhrase, IsStatement};
 ghost use Rattle.ath_syntax.specs.Tree.{DirectiveTree, Phrase, Statement};
-ghost use Rattle.ath_reader.specs.Reading.{Answers};
+ghost use Rattle.ath_reader.specs.Answering.{Answers};
 ghost use Rattle.ath_declarations.specs.Declarations.{domain_declared, declared};
-ghost use Rattle.ath_declarations.specs.Unlisted.{is_unlisted};
-ghost use Rattle.ath_eval.specs.Evaluation.{outcome_of, place};
+ghost use Rattle.ath_syntax.specs.Places.{place};
 ghost use Rattle.ath_eval.specs.Outcomes.{refusal};
-ghost use Rattle.ath_env.specs.Values.{IsIn, value_at, sentence_of};
+ghost use Rattle.ath_env.specs.Values.{sentence_of};
+ghost use Rattle.ath_env.specs.Stands.{IsIn, value_at};
 ghost use Rattle.ath_trees.specs.Measure.{IsSmall};
 ghost use Rattle.ath_terms.specs.Trees.{Trees, sent_at};
 ghost use Rattle.ath_print.specs.Events.{domain_added, symbols_added};
-ghost use Rattle.ath_print.specs.Stands.{IsFault, IsFaultIn, refusal_of};
-ghost use Rattle.ath_session.specs.Directives.{effect, done, declaring, declaration_refusal, unknown_sort, asserting, asserting_sentence, showing, loading, refusing};
-ghost use Rattle.ath_session.specs.Session.{state_of, IsSorted, ParamsDiffer, IsReply, KeepsText};
-ghost use Rattle.ath_session.specs.State.{first_state, context, joining, with_names};
+ghost use Rattle.ath_print.specs.Stands.{IsFault, IsFaultIn, event_of, refusal_of};
+ghost use Rattle.ath_session.specs.Directives.{outcome_in, effect, done, declaring, declaration_refusal, asserting, asserting_sentence, showing, loading, refusing};
+ghost use Rattle.ath_session.specs.Session.{state_of, IsSorted, ParamsDiffer, IsReply, KeepsNumbers};
+ghost use Rattle.ath_session.specs.Sound.{IsSound, AreFollowing};
+ghost use Rattle.ath_session.specs.State.{first_state, joining, with_names};
 
 use crate::built::unbuilt_in;
-use ath_declarations::{declare, declare_domain, is_unlisted};
+use ath_base::{Base, Origin};
+use ath_declarations::{DeclareError, declare, declare_domain};
 use ath_env::{Value, sentence};
 use ath_eval::{Outcome, World, run};
 use ath_names::Names;
 use ath_print::{Event, Fault, FaultArg, FaultKind};
 use ath_reader::{OpTable, Reader, SyntaxError};
-use ath_sorts::{SigError, Signature, Sym};
+use ath_sorts::{Flaw, Signature, Sym};
 use ath_syntax::{Directive, PhraseId, Phrases, Pos, SortText, What};
 use ath_terms::{Fresh, Store};
 use ath_trees::SentId;
@@ -84,29 +87,20 @@ fn ending(alloc: Global, at: Pos) -> Result<Reply, AllocError>
     })
 }
 
-/// A fault that names a sort variable, or else a name.
-fn naming(alloc: Global, kind: FaultKind, variable: bool, name: Sym) -> Result<Fault, AllocError>
-    ensures { (s : Trees) → IfOk result (λ f. IsFault s f (refusal kind (unknown_sort variable name ∷ []))) }
+/// Why a declaration is refused.
+fn declaration_fault(alloc: Global, flaw: Flaw) -> Result<Fault, AllocError>
+    ensures { (s : Trees) → IfOk result (λ f. IsFault s f (declaration_refusal flaw)) }
 {
-    if variable {
-        return Fault::naming(alloc, kind, FaultArg::SortName(name));
-    }
-    Fault::naming(alloc, kind, FaultArg::Name(name))
-}
-
-/// Why a declaration is refused; want of memory is no refusal.
-fn declaration_fault(alloc: Global, unlisted: bool, error: SigError) -> Result<Fault, AllocError>
-    ensures fault { (s : Trees) → IfOk result (λ f. IsFault s f (declaration_refusal unlisted error)) }
-    ensures memory { error ≡ SigError.Memory → OnOk result ⊥ }
-{
-    match error {
-        SigError::Redeclared(name) => naming(alloc, FaultKind::Redeclared, false, name),
-        SigError::TooWide(name) => naming(alloc, FaultKind::TooWide, false, name),
-        SigError::UnknownSort(name) => naming(alloc, FaultKind::UnknownSort, unlisted, name),
-        SigError::Arity(name) => naming(alloc, FaultKind::Arity, false, name),
-        SigError::SortTooLarge => Ok(Fault::plain(alloc, FaultKind::SortTooLarge)),
-        SigError::LooseParam(name) => naming(alloc, FaultKind::LooseParam, true, name),
-        SigError::Memory => Err(AllocError),
+    match flaw {
+        Flaw::Redeclared(n) => Fault::naming(alloc, FaultKind::Redeclared, FaultArg::Name(n)),
+        Flaw::TooWide(n) => Fault::naming(alloc, FaultKind::TooWide, FaultArg::Name(n)),
+        Flaw::UnknownVariable(n) => {
+            Fault::naming(alloc, FaultKind::UnknownSort, FaultArg::SortName(n))
+        }
+        Flaw::UnknownSort(n) => Fault::naming(alloc, FaultKind::UnknownSort, FaultArg::Name(n)),
+        Flaw::Arity(n) => Fault::naming(alloc, FaultKind::Arity, FaultArg::Name(n)),
+        Flaw::SortTooLarge => Ok(Fault::plain(alloc, FaultKind::SortTooLarge)),
+        Flaw::LooseParam(n) => Fault::naming(alloc, FaultKind::LooseParam, FaultArg::SortName(n)),
     }
 }
 
@@ -116,6 +110,7 @@ impl Session {
         requires { fuel ≤ MOST_FUEL }
         ensures state { IfOk result (λ s. state_of s.world ≡ first_state fuel) }
         ensures sorted { IfOk result (λ s. IsSorted s.world) }
+        ensures sound { IfOk result (λ s. IsSound (state_of s.world)) }
     {
         let names = match Names::new(alloc) {
             Ok(names) => names,
@@ -125,7 +120,7 @@ impl Session {
             names,
             sig: Signature::new(alloc)?,
             store: Store::new(alloc),
-            base: Vec::new(alloc),
+            base: Base::new(alloc),
             phrases: Phrases::new(alloc),
             fuel,
             fresh: Fresh::first(),
@@ -160,26 +155,49 @@ impl Session {
     }
 
     /// Runs a directive that `read` gave. One that is refused keeps all but the fuel and the counters of fresh names; where
-    /// memory is wanted, it may be done in part, and the run has to end.
+    /// memory is wanted, it may be done in part, and the run has to end. Each theorem that it tells is derivable from the
+    /// sentences that were asserted before it.
     pub fn directive(&mut self, alloc: Global, directive: &Directive) -> Result<Reply, AllocError>
         requires directive { (d : DirectiveTree) × IsDirective self.old.world.phrases directive.now d }
         requires differ { ParamsDiffer directive.now.what }
         requires sorted { IsSorted self.old.world }
-        ensures text { KeepsText self.old.world self.new.world }
+        ensures numbers { KeepsNumbers self.old.world self.new.world }
+        ensures sorted { IsSorted self.new.world }
+        ensures reply { IfOk result (λ r. (d : DirectiveTree) → IsDirective self.old.world.phrases directive.now d → IsReply self.new.world r (effect (state_of self.old.world) d)) }
+        ensures theorems { IsSound (state_of self.old.world) → IfOk result (λ r. AreFollowing (state_of self.old.world) self.new.world.sig (map (event_of self.new.world.store) r.events.items) × IsSound (state_of self.new.world)) }
+    {
+        let reply = self.answer(alloc, directive)?;
+        Ok(reply)
+    }
+
+    /// The reply to a directive, by what isn't built in it.
+    fn answer(&mut self, alloc: Global, directive: &Directive) -> Result<Reply, AllocError>
+        requires directive { (d : DirectiveTree) × IsDirective self.old.world.phrases directive.now d }
+        requires differ { ParamsDiffer directive.now.what }
+        requires sorted { IsSorted self.old.world }
+        ensures numbers { KeepsNumbers self.old.world self.new.world }
         ensures sorted { IsSorted self.new.world }
         ensures reply { IfOk result (λ r. (d : DirectiveTree) → IsDirective self.old.world.phrases directive.now d → IsReply self.new.world r (effect (state_of self.old.world) d)) }
     {
         let world = &self.world;
         let unbuilt = unbuilt_in(&world.names, &world.phrases, directive.pos, &directive.what);
         if let Some(at) = unbuilt {
-            let reply = self.refuse(alloc, at, Fault::plain(alloc, FaultKind::NotBuilt))?;
+            let reply = self.refusal(alloc, at, Fault::plain(alloc, FaultKind::NotBuilt))?;
             return Ok(reply);
         }
         self.run_built(alloc, directive)
     }
 
-    /// The reply to a directive that is refused, at a place: the one event, after which the run goes on.
-    pub fn refuse(&self, alloc: Global, at: Pos, fault: Fault) -> Result<Reply, AllocError>
+    /// Refuses what was read, at a place: the reply is the one event, after which the run goes on.
+    pub fn refuse(&mut self, alloc: Global, at: Pos, fault: Fault) -> Result<Reply, AllocError>
+        requires { IsFaultIn self.old.world.store fault }
+        ensures kept { self.new ≡ self.old }
+        ensures reply { IfOk result (λ r. IsReply self.new.world r (refusing (state_of self.old.world) at (refusal_of self.old.world.store fault))) }
+    {
+        self.refusal(alloc, at, fault)
+    }
+
+    fn refusal(&self, alloc: Global, at: Pos, fault: Fault) -> Result<Reply, AllocError>
         requires { IsFaultIn self.now.world.store fault }
         ensures { IfOk result (λ r. IsReply self.now.world r (refusing (state_of self.now.world) at (refusal_of self.now.world.store fault))) }
     {
@@ -190,7 +208,7 @@ impl Session {
         requires statement { (s : Statement) × IsStatement self.old.world.phrases directive.now.what s }
         requires differ { ParamsDiffer directive.now.what }
         requires sorted { IsSorted self.old.world }
-        ensures text { KeepsText self.old.world self.new.world }
+        ensures numbers { KeepsNumbers self.old.world self.new.world }
         ensures sorted { IsSorted self.new.world }
         ensures reply { IfOk result (λ r. (s : Statement) → IsStatement self.old.world.phrases directive.now.what s → IsReply self.new.world r (done (state_of self.old.world) directive.now.pos s)) }
     {
@@ -212,7 +230,7 @@ impl Session {
             What::Assert(_, _, phrase) => self.assert(alloc, *phrase),
             What::Load(name) => self.load(alloc, directive.pos, name.as_slice()),
             What::Phrase(phrase) => self.show(alloc, *phrase),
-            _other => self.refuse(
+            _other => self.refusal(
                 alloc,
                 directive.pos,
                 Fault::plain(alloc, FaultKind::NotBuilt),
@@ -228,13 +246,13 @@ impl Session {
         vars: &[Sym],
     ) -> Result<Reply, AllocError>
         requires { IsSorted self.old.world }
-        ensures text { KeepsText self.old.world self.new.world }
+        ensures numbers { KeepsNumbers self.old.world self.new.world }
         ensures sorted { IsSorted self.new.world }
-        ensures reply { IfOk result (λ r. IsReply self.new.world r (declaring (state_of self.old.world) at (domain_added name) false (domain_declared self.old.world.sig name vars.now))) }
+        ensures reply { IfOk result (λ r. IsReply self.new.world r (declaring (state_of self.old.world) at (domain_added name) (domain_declared self.old.world.sig name vars.now))) }
     {
         match declare_domain(alloc, &mut self.world.sig, name, vars) {
             Ok(()) => telling(alloc, Event::Domain(name)),
-            Err(error) => self.refuse_declaration(alloc, at, false, error),
+            Err(error) => self.refuse_declaration(alloc, at, error),
         }
     }
 
@@ -249,18 +267,17 @@ impl Session {
     ) -> Result<Reply, AllocError>
         requires differ { IfSome list.now AreDistinct }
         requires sorted { IsSorted self.old.world }
-        ensures text { KeepsText self.old.world self.new.world }
+        ensures numbers { KeepsNumbers self.old.world self.new.world }
         ensures sorted { IsSorted self.new.world }
-        ensures reply { IfOk result (λ r. IsReply self.new.world r (declaring (state_of self.old.world) at (symbols_added names.now) (is_unlisted self.old.world.sig list.now args.now result_sort.now) (declared self.old.world.sig names.now list.now args.now result_sort.now))) }
+        ensures reply { IfOk result (λ r. IsReply self.new.world r (declaring (state_of self.old.world) at (symbols_added names.now) (declared self.old.world.sig names.now list.now args.now result_sort.now))) }
     {
-        let unlisted = is_unlisted(&self.world.sig, list, args, result_sort);
         match declare(alloc, &mut self.world.sig, names, list, args, result_sort) {
             Ok(()) => {
                 let told = Items::from_slice(alloc, names)?;
                 let reply = telling(alloc, Event::Symbols(told))?;
                 Ok(reply)
             }
-            Err(error) => self.refuse_declaration(alloc, at, unlisted, error),
+            Err(error) => self.refuse_declaration(alloc, at, error),
         }
     }
 
@@ -269,26 +286,29 @@ impl Session {
         &self,
         alloc: Global,
         at: Pos,
-        unlisted: bool,
-        error: SigError,
+        error: DeclareError,
     ) -> Result<Reply, AllocError>
-        ensures reply { IfOk result (λ r. IsReply self.now.world r (refusing (state_of self.now.world) at (declaration_refusal unlisted error))) }
-        ensures memory { error ≡ SigError.Memory → OnOk result ⊥ }
+        ensures reply { (f : Flaw) → error ≡ DeclareError.Flawed f → IfOk result (λ r. IsReply self.now.world r (refusing (state_of self.now.world) at (declaration_refusal f))) }
+        ensures memory { error ≡ DeclareError.Memory → OnOk result ⊥ }
     {
-        let fault = declaration_fault(alloc, unlisted, error)?;
-        let reply = self.refuse(alloc, at, fault)?;
+        let flaw = match error {
+            DeclareError::Flawed(flaw) => flaw,
+            DeclareError::Memory => return Err(AllocError),
+        };
+        let fault = declaration_fault(alloc, flaw)?;
+        let reply = self.refusal(alloc, at, fault)?;
         Ok(reply)
     }
 
     /// A sentence within the limits joins the base.
-    fn join(&mut self, p: SentId) -> Result<(), AllocError>
+    fn join(&mut self, p: SentId, origin: Origin) -> Result<(), AllocError>
         requires { (p.0 < length self.old.world.store.sents) × IsSmall (sent_at self.old.world.store.sents p.0) }
-        ensures text { KeepsText self.old.world self.new.world }
+        ensures numbers { KeepsNumbers self.old.world self.new.world }
         ensures store { self.new.world.store ≡ self.old.world.store }
         ensures sig { self.new.world.sig ≡ self.old.world.sig }
-        ensures state { OnOk result (state_of self.new.world ≡ joining (state_of self.old.world) (sent_at self.old.world.store.sents p.0)) }
+        ensures state { OnOk result (state_of self.new.world ≡ joining (state_of self.old.world) origin (sent_at self.old.world.store.sents p.0)) }
     {
-        self.world.base.push(p)?;
+        self.world.base.add(p, origin)?;
         Ok(())
     }
 
@@ -296,15 +316,15 @@ impl Session {
     fn assert(&mut self, alloc: Global, phrase: PhraseId) -> Result<Reply, AllocError>
         requires phrase { (x : Phrase) × IsPhrase self.old.world.phrases phrase x }
         requires sorted { IsSorted self.old.world }
-        ensures text { KeepsText self.old.world self.new.world }
+        ensures numbers { KeepsNumbers self.old.world self.new.world }
         ensures sorted { IsSorted self.new.world }
-        ensures reply { IfOk result (λ r. (x : Phrase) → IsPhrase self.old.world.phrases phrase x → IsReply self.new.world r (asserting (state_of self.old.world) (place x) (outcome_of (context (state_of self.old.world)) x self.old.world.fuel self.old.world.fresh))) }
+        ensures reply { IfOk result (λ r. (x : Phrase) → IsPhrase self.old.world.phrases phrase x → IsReply self.new.world r (asserting (state_of self.old.world) (place x) (outcome_in (state_of self.old.world) x))) }
     {
         let at = self.world.phrases.node(phrase).pos;
         match run(alloc, &mut self.world, phrase)? {
             Outcome::Value(value) => self.assert_value(alloc, at, value),
             Outcome::Theorem(p) => self.assert_value(alloc, at, Value::Sent(p)),
-            Outcome::Error(at, fault) => self.refuse(alloc, at, fault),
+            Outcome::Error(at, fault) => self.refusal(alloc, at, fault),
             Outcome::Exhausted(at) => ending(alloc, at),
         }
     }
@@ -313,15 +333,15 @@ impl Session {
         requires known { IsIn self.old.world.store value }
         requires small { IfSome (sentence_of (value_at self.old.world.store value)) IsSmall }
         requires sorted { IsSorted self.old.world }
-        ensures text { KeepsText self.old.world self.new.world }
+        ensures numbers { KeepsNumbers self.old.world self.new.world }
         ensures sorted { IsSorted self.new.world }
         ensures reply { IfOk result (λ r. IsReply self.new.world r (asserting_sentence (state_of self.old.world) at (sentence_of (value_at self.old.world.store value)))) }
     {
         let Some(p) = sentence(&mut self.world.store, value)? else {
-            let reply = self.refuse(alloc, at, Fault::plain(alloc, FaultKind::NotSentence))?;
+            let reply = self.refusal(alloc, at, Fault::plain(alloc, FaultKind::NotSentence))?;
             return Ok(reply);
         };
-        self.join(p)?;
+        self.join(p, Origin::Asserted)?;
         let reply = telling(alloc, Event::Assertion(p))?;
         Ok(reply)
     }
@@ -330,18 +350,18 @@ impl Session {
     fn show(&mut self, alloc: Global, phrase: PhraseId) -> Result<Reply, AllocError>
         requires phrase { (x : Phrase) × IsPhrase self.old.world.phrases phrase x }
         requires sorted { IsSorted self.old.world }
-        ensures text { KeepsText self.old.world self.new.world }
+        ensures numbers { KeepsNumbers self.old.world self.new.world }
         ensures sorted { IsSorted self.new.world }
-        ensures reply { IfOk result (λ r. (x : Phrase) → IsPhrase self.old.world.phrases phrase x → IsReply self.new.world r (showing (state_of self.old.world) (outcome_of (context (state_of self.old.world)) x self.old.world.fuel self.old.world.fresh))) }
+        ensures reply { IfOk result (λ r. (x : Phrase) → IsPhrase self.old.world.phrases phrase x → IsReply self.new.world r (showing (state_of self.old.world) (outcome_in (state_of self.old.world) x))) }
     {
         match run(alloc, &mut self.world, phrase)? {
             Outcome::Value(value) => telling(alloc, Event::Shown(value)),
             Outcome::Theorem(p) => {
-                self.join(p)?;
+                self.join(p, Origin::Concluded)?;
                 let reply = telling(alloc, Event::Theorem(p))?;
                 Ok(reply)
             }
-            Outcome::Error(at, fault) => self.refuse(alloc, at, fault),
+            Outcome::Error(at, fault) => self.refusal(alloc, at, fault),
             Outcome::Exhausted(at) => ending(alloc, at),
         }
     }
@@ -350,7 +370,7 @@ impl Session {
         ensures { IfOk result (λ r. IsReply self.now.world r (loading (state_of self.now.world) at name.now)) }
     {
         let Ok(name) = str::from_utf8(name) else {
-            let reply = self.refuse(alloc, at, Fault::plain(alloc, FaultKind::BadUtf8))?;
+            let reply = self.refusal(alloc, at, Fault::plain(alloc, FaultKind::BadUtf8))?;
             return Ok(reply);
         };
         let name = String::from_str(alloc, name)?;

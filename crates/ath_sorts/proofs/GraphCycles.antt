@@ -1,7 +1,7 @@
 -- Marks: which nodes have a tree, and why no map makes the classes equal where some have none.
-use Rattle.std.proofs.Common.{◌≡◌, ℕ, zero, suc, ◌+◌, ◌<◌, ◌≤◌, Bool, true, false, cond, ◌&&◌, ◌||◌, List, [], ◌∷◌, length, map, sum, replicate, slice_get, slice_set, Option, Some, None, refl, sym, ◌∙◌, ap, subst, arith, ◌⊎◌, inl, inr}
+use Rattle.std.proofs.Common.{◌≡◌, ℕ, zero, suc, ◌+◌, ◌<◌, ◌≤◌, Bool, true, false, cond, ◌&&◌, ◌||◌, not, List, [], ◌∷◌, length, map, sum, replicate, slice_get, slice_set, Option, Some, None, refl, sym, ◌∙◌, ap, subst, arith, ◌⊎◌, inl, inr}
 use Rattle.std.proofs.lemmas.Grind.{common_steps}
-use Rattle.std.specs.List.{list_all}
+use Rattle.std.specs.List.{list_all, list_any}
 use Rattle.ath_sorts.specs.declared.graph.Graph.{Graph}
 use Rattle.ath_sorts.specs.declared.nodes.Node.{Node}
 use Rattle.ath_sorts.specs.declared.nodes.Node.TheVariants.{Leaf, Branch}
@@ -165,3 +165,9 @@ pub stuck_turn : (g : Graph) (before next : List Bool) (any m : Bool) (at : ℕ)
 stuck_turn g before next any m at stuck kept here h =
     let p = or_none any m h in
     below_more g next at (subst (λ (x : List Bool). (i : ℕ) → i < at → IsStuckAt g x i) (sym (kept p.1)) (stuck p.0)) (here p.1)
+
+-- where no mark is false, all are true
+pub none_false : (e : Bool → Bool) → e true ≡ false → e false ≡ true → (ms : List Bool) → not (list_any e ms) ≡ list_all (λ m. m) ms
+none_false e t f [] = refl
+none_false e t f (true ∷ ms) = ap (λ b. not (b || list_any e ms)) t ∙ none_false e t f ms
+none_false e t f (false ∷ ms) = ap (λ b. not (b || list_any e ms)) f

@@ -10,7 +10,7 @@ use Rattle.ath_sorts.specs.declared.sorts.SVar.{SVar}
 use Rattle.ath_sorts.specs.declared.sorts.Sort.{Sort, Var, Con}
 use Rattle.ath_sorts.specs.declared.sorts.Sym.{Sym}
 use Rattle.ath_sorts.specs.Sorts.{same_svar, apply_to}
-use Rattle.ath_sorts.specs.Unifiers.{comes_first, joined, vars_of}
+use Rattle.ath_sorts.specs.Order.{comes_first, joined, vars_of}
 use Rattle.ath_sorts.specs.Graphs.{class_at, value, Respects, IsGraph, IsClosed, LeafFree, IsOrdered, GraphGrows, AddsSort, AddsSorts, stands_before}
 use Rattle.ath_sorts.proofs.Gets.{get-left, get-seam, get-last, get-within, get-past, length-snoc, length-both, all-weaker, all-snoc, map-same, map-both}
 use Rattle.ath_sorts.proofs.GraphTrees.{leaf-inj, leaf-not-branch, branch-inj}

@@ -6,7 +6,8 @@ use Rattle.ath_sorts.specs.declared.graph.Graph.{Graph}
 use Rattle.ath_sorts.specs.declared.sorts.SVar.{SVar}
 use Rattle.ath_sorts.specs.declared.sorts.Sort.{Sort, Var}
 use Rattle.ath_sorts.specs.Sorts.{apply_to}
-use Rattle.ath_sorts.specs.Unifiers.{Unifies, HasUnifier, same_sort, vars_of, vars_read}
+use Rattle.ath_sorts.specs.Unifiers.{Unifies, HasUnifier}
+use Rattle.ath_sorts.specs.Order.{same_sort, vars_of, vars_read}
 use Rattle.ath_sorts.specs.Graphs.{value, Respects, IsGraph, IsClosed, IsOrdered, AddsSort, MatchUnited, MatchAcyclic, MatchEquated, Solves, Stands}
 use Rattle.ath_sorts.proofs.GraphGrowth.{kept_value, longer, ordered_nodes}
 use Rattle.ath_sorts.proofs.GraphSolutions.{has_unifier}

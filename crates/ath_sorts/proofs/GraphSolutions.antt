@@ -8,10 +8,10 @@ use Rattle.ath_sorts.specs.declared.sorts.SVar.{SVar}
 use Rattle.ath_sorts.specs.declared.sorts.SVar.TheVariants.{Written, Made}
 use Rattle.ath_sorts.specs.declared.sorts.Sort.{Sort, Var}
 use Rattle.ath_sorts.specs.declared.sorts.Sym.{Sym}
-use Rattle.ath_sorts.specs.Limits.{is_small}
-use Rattle.ath_sorts.specs.Sorts.{same_svar, image, apply_to, depth_of}
+use Rattle.ath_sorts.specs.Sorts.{is_small, same_svar, image, apply_to, depth_of}
 use Rattle.ath_sorts.specs.Substitutions.{entry_of}
-use Rattle.ath_sorts.specs.Unifiers.{HasUnifier, IsLeastUnifier, precedes, vars_read}
+use Rattle.ath_sorts.specs.Unifiers.{HasUnifier, IsLeastUnifier}
+use Rattle.ath_sorts.specs.Order.{precedes, vars_read}
 use Rattle.ath_sorts.specs.Graphs.{class_at, head_at, Respects, IsGraph, LeafFree, Grows, leaf, branch, HasTrees, IsOrdered, stands_before, Solves, IsSolution, HasSmallImages, HasLargeImage}
 use Rattle.ath_sorts.proofs.Gets.{get-there, get-within, some-inj, some-not-none}
 use Rattle.ath_sorts.proofs.GraphTrees.{leaf-inj, leaf-not-branch, tree-value, trees-respected}

@@ -7,9 +7,9 @@ use Rattle.ath_sorts.specs.declared.graph.Graph.{Graph}
 use Rattle.ath_sorts.specs.declared.nodes.Node.{Node}
 use Rattle.ath_sorts.specs.declared.nodes.Node.TheVariants.{Leaf, Branch}
 use Rattle.ath_sorts.specs.declared.sorts.SVar.{SVar}
-use Rattle.ath_sorts.specs.declared.sorts.Sort.{Sort, Con}
+use Rattle.ath_sorts.specs.declared.sorts.Sort.{Sort}
 use Rattle.ath_sorts.specs.declared.sorts.Sym.{Sym}
-use Rattle.ath_sorts.specs.Graphs.{class_at, head_at, value, Respects, IsGraph, IsClosed, AgreesAt, rename, join_names, join_class, names_class, classes, Waits, Linked, same, waits, turned, through, AreLinked, WillAgreeAt, AreThere, AreEqual, Unites, NoneUnites, width, joins_left, Joins, MatchJoined, MatchArguments}
+use Rattle.ath_sorts.specs.Graphs.{class_at, value, Respects, IsGraph, IsClosed, rename, join_names, join_class, names_class, classes, Waits, Linked, same, waits, turned, through, AreLinked, WillAgreeAt, AreThere, AreEqual, Unites, NoneUnites, width, Joins, MatchJoined, MatchArguments}
 use Rattle.ath_sorts.proofs.Bools.{bool_cases, num_cases, true-not-false}
 use Rattle.ath_sorts.proofs.Gets.{all-weaker, append-none, cons-head, cons-tail, get-map, get-past, get-there, get-within, length-both, length-map', some-inj, some-not-none}
 use Rattle.ath_sorts.proofs.GraphJoins.{Joined, joined_apart, names_first, names_second, rename-same, rename-other}

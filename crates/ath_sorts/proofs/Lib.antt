@@ -13,6 +13,7 @@ pub mod GraphUnions
 pub mod Partitions
 pub mod PartitionJoins
 pub mod NodePlaces
+pub mod EntryPlaces
 pub mod SameSorts
 pub mod GraphGrowth
 pub mod GraphSizes

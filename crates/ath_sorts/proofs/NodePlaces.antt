@@ -1,5 +1,5 @@
 -- The table of the variables' nodes.
-use Rattle.std.proofs.Common.{◌≡◌, ℕ, Bool, true, false, cond, refl, ◌++◌, ◌∷◌, [], List, length, slice_get, Some, sym, ◌∙◌, ap, subst, inl, inr}
+use Rattle.std.proofs.Common.{◌≡◌, ℕ, Bool, cond, refl, ◌++◌, ◌∷◌, [], List, length, Some, sym, ◌∙◌, ap, inl, inr}
 use Rattle.std.specs.Map.{lookup}
 use Rattle.ath_sorts.specs.declared.nodes.Node.{Node}
 use Rattle.ath_sorts.specs.declared.nodes.Node.TheVariants.{Leaf}
@@ -39,7 +39,10 @@ lookup_same : {X : Type 0} (t u : SVar → Bool) (es : List (SVar × X)) → ((k
 lookup_same t u [] e = refl
 lookup_same t u (x ∷ es) e = λ i. cond (e x.0 i) (Some x.1) (lookup_same t u es e i)
 
-pub filed_at : (places more : List (SVar × ℕ)) (v : SVar) (at : ℕ) (nodes : List Node) → ((q : SVar) → lookup (derived.ghosts.eq q) more ≡ cond (derived.ghosts.eq v q) (Some at) (lookup (derived.ghosts.eq q) places)) → at ≡ length nodes → (q : SVar) → lookup (same_svar q) more ≡ cond (same_svar v q) (Some (length nodes)) (lookup (same_svar q) places)
-filed_at places more v at nodes h e q =
+pub filed_at : (places more : List (SVar × ℕ)) (v : SVar) (at n : ℕ) → ((q : SVar) → lookup (derived.ghosts.eq q) more ≡ cond (derived.ghosts.eq v q) (Some at) (lookup (derived.ghosts.eq q) places)) → at ≡ n → (q : SVar) → lookup (same_svar q) more ≡ cond (same_svar v q) (Some n) (lookup (same_svar q) places)
+filed_at places more v at n h e q =
     sym (lookup_same (derived.ghosts.eq q) (same_svar q) more (derived_same q)) ∙ h q
     ∙ (λ i. cond (derived_same v q i) (Some (e i)) (lookup_same (derived.ghosts.eq q) (same_svar q) places (derived_same q) i))
+
+pub looked_up : (places : List (SVar × ℕ)) (v : SVar) → lookup (same_svar v) places ≡ lookup (derived.ghosts.eq v) places
+looked_up places v = sym (lookup_same (derived.ghosts.eq v) (same_svar v) places (derived_same v))

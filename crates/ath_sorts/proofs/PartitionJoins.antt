@@ -1,12 +1,12 @@
 -- Two blocks become one.
-use Rattle.std.proofs.Common.{◌≡◌, ℕ, zero, suc, ◌+◌, ◌<◌, ◌≤◌, Bool, true, false, cond, ◌==◌, ◌||◌, List, [], ◌∷◌, ◌++◌, length, map, slice_get, slice_set, get_or, Result, Ok, Err, OnErr, Option, Some, None, unwrap_or, refl, sym, ◌∙◌, ap, subst, arith, ◌⊎◌, inl, inr, length-set}
+use Rattle.std.proofs.Common.{◌≡◌, ℕ, zero, suc, ◌<◌, true, false, ◌==◌, List, [], ◌∷◌, ◌++◌, length, map, slice_get, slice_set, get_or, Result, Ok, Err, OnErr, Some, unwrap_or, refl, sym, ◌∙◌, ap, subst, arith, ◌⊎◌, inl, inr, length-set}
 use Rattle.std.proofs.lemmas.Grind.{common_steps}
 use Rattle.std.proofs.lemmas.List.Folds.{list_any-append}
 use Rattle.ath_sorts.specs.declared.partition.Block.{Block}
 use Rattle.ath_sorts.specs.Partitions.{class_at, rename, name_of, name_at, members_of, is_member, class_names, IsPartition}
 use Rattle.ath_sorts.proofs.Bools.{either_to, num_cases}
 use Rattle.ath_sorts.proofs.Partitions.{set_there, set_elsewhere}
-use Rattle.ath_sorts.proofs.Gets.{get-from-or, get-map, get-there, get-within, length-map', some-inj, some-not-none}
+use Rattle.ath_sorts.proofs.Gets.{get-from-or, get-map, get-within, length-map', some-inj, some-not-none}
 
 -- a block that takes the place of one with the same name, and has its members
 pub record Keeps (old new : List Block) (at : ℕ) : Type 0 where

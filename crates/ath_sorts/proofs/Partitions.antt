@@ -1,13 +1,12 @@
 -- Blocks of nodes: one more node, and nodes that are filed under another block.
-use Rattle.std.proofs.Common.{◌≡◌, ℕ, zero, suc, ◌+◌, ◌<◌, ◌≤◌, Bool, true, false, cond, ◌==◌, ◌||◌, IsTrue, List, [], ◌∷◌, ◌++◌, length, map, take, get_or, slice_get, slice_set, Option, Some, None, refl, sym, ◌∙◌, ap, subst, arith, ◌⊎◌, inl, inr}
+use Rattle.std.proofs.Common.{◌≡◌, ℕ, zero, suc, ◌+◌, ◌<◌, true, false, ◌==◌, List, [], ◌∷◌, ◌++◌, length, map, take, get_or, slice_get, slice_set, Option, Some, None, refl, sym, ◌∙◌, ap, subst, arith, ◌⊎◌, inl, inr}
 use Rattle.std.proofs.lemmas.Grind.{common_steps}
-use Rattle.std.proofs.lemmas.List.{take_more, take_all}
+use Rattle.std.proofs.lemmas.List.{take_more}
 use Rattle.std.proofs.lemmas.List.Folds.{list_any-append}
-use Rattle.std.specs.List.{list_any}
 use Rattle.ath_sorts.specs.declared.partition.Block.{Block}
 use Rattle.ath_sorts.specs.Partitions.{rename, name_of, name_at, members_of, is_member, class_names, IsPartition}
 use Rattle.ath_sorts.proofs.Bools.{either_of, either_to, num_cases, num_same, same_num, true-not-false}
-use Rattle.ath_sorts.proofs.Gets.{get-last, get-left, get-map, get-past, get-seam, get-there, get-within, length-snoc, map-both, some-inj, some-not-none}
+use Rattle.ath_sorts.proofs.Gets.{get-last, get-left, get-map, get-seam, length-snoc, map-both, some-inj, some-not-none}
 
 -- ---- one more node
 

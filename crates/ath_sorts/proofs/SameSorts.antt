@@ -7,7 +7,7 @@ use Rattle.ath_sorts.specs.declared.sorts.Sort.{Sort, Var, Con, out-Sort}
 use Rattle.ath_sorts.specs.declared.sorts.Sort.TheOpen as one
 use Rattle.ath_sorts.specs.declared.sorts.Sort.TheVariants.{rolls-Var, rolls-Con, outs-Var, outs-Con}
 use Rattle.ath_sorts.specs.declared.sorts.Sort.TheFolds.{fold-roll-Sort}
-use Rattle.ath_sorts.specs.Unifiers.{all_pass, same_step, same_sort, joined, vars_step, vars_of}
+use Rattle.ath_sorts.specs.Order.{all_pass, same_step, same_sort, joined, vars_step, vars_of}
 use Rattle.ath_sorts.proofs.SortLaws.{sort_induction, same_svar-true, same_svar-refl}
 use Rattle.ath_sorts.proofs.SubstitutionLaws.{sort_cases}
 use Rattle.ath_sorts.proofs.Bools.{and_parts, same_num, num_same}

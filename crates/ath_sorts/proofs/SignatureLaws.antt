@@ -1,18 +1,21 @@
 -- The tables of a signature, searched.
-use Rattle.std.proofs.Common.{◌≡◌, ℕ, ◌≤◌, length, nat_lt, Result, Ok, Err, IfErr, OnOk, if◌then◌else◌, ◌&&◌, ◌||◌, Bool, true, false, cond, ◌==◌, List, [], ◌∷◌, ◌++◌, map, Option, Some, None, is_some, refl, ◌∙◌, ap, arith}
+use Rattle.std.proofs.Common.{◌≡◌, ℕ, ◌≤◌, length, nat_lt, Result, Ok, Err, IfErr, OnOk, if◌then◌else◌, ◌&&◌, ◌||◌, Bool, true, false, cond, ◌==◌, List, [], ◌∷◌, ◌++◌, map, Option, Some, None, is_some, option_map, refl, sym, ◌∙◌, ap, subst, arith}
 use Rattle.std.proofs.lemmas.Grind.{common_steps}
 use Rattle.std.specs.Map.{lookup}
 use Rattle.ath_sorts.specs.declared.sorts.Sym.{Sym}
 use Rattle.ath_sorts.specs.declared.signature.Symbol.{Symbol}
 use Rattle.ath_sorts.specs.Kept.{AreNamed}
-use Rattle.ath_sorts.specs.Signature.{Signature, symbol_of, arity_among, symbol_among}
+use Rattle.ath_sorts.specs.Signature.{Signature, arity_of, symbol_of, arity_among, symbol_among}
 use Rattle.ath_sorts.specs.declared.signature.SigError.{SigError}
-use Rattle.ath_sorts.specs.declared.signature.SigError.TheVariants.{SortTooLarge, Memory}
+use Rattle.ath_sorts.specs.declared.signature.SigError.TheVariants.{Memory}
+use Rattle.ath_sorts.specs.declared.signature.Flaw.{Flaw}
+use Rattle.ath_sorts.specs.declared.signature.Flaw.TheVariants as flaw
+use Rattle.ath_sorts.specs.declared.signature.Flaw.TheVariants.{SortTooLarge}
 use Rattle.ath_sorts.specs.declared.sorts.Sort.{Sort}
 use Rattle.ath_sorts.specs.declared.sorts.SVar.TheVariants.{Written}
-use Rattle.ath_sorts.specs.Declaring.{first_fault, use_fault, use_faults, all_small, loose_faults, symbol_fault}
-use Rattle.ath_sorts.specs.Limits.{is_small}
-use Rattle.ath_sorts.specs.Sorts.{occurs}
+use Rattle.ath_sorts.specs.Answers.{MatchFault}
+use Rattle.ath_sorts.specs.Declaring.{error_of, domain_fault, first_fault, use_fault, use_faults, all_small, loose_faults, symbol_fault}
+use Rattle.ath_sorts.specs.Sorts.{is_small, occurs}
 use Rattle.std.specs.List.{list_any}
 use Rattle.std.proofs.lemmas.List.Folds.{list_any-append, list_all-append}
 use Rattle.ath_sorts.proofs.Bools.{and-true, or-false, turned}
@@ -38,7 +41,7 @@ pub symbols-more : (es : List (Sym × Symbol)) (e : Sym × Symbol) → map (λ e
 symbols-more [] e = refl
 symbols-more (x ∷ es) e = ap (λ r. x.1 ∷ r) (symbols-more es e)
 
-pub first-last : (xs : List (Option SigError)) (y : Option SigError) → first_fault (xs ++ y ∷ []) ≡ first_fault (first_fault xs ∷ y ∷ [])
+pub first-last : (xs : List (Option Flaw)) (y : Option Flaw) → first_fault (xs ++ y ∷ []) ≡ first_fault (first_fault xs ∷ y ∷ [])
 first-last [] y = refl
 first-last (None ∷ xs) y = first-last xs y
 first-last (Some e ∷ xs) y = refl
@@ -71,10 +74,10 @@ module _ (sig : Signature) (name : Sym) (params : List Sym) (args : List Sort) (
       let w = both_false (nat_lt 64 (length params)) (nat_lt 64 (length args)) (not_above _ few) (not_above _ narrow) in
       rw (new, w) refl
 
-  pub fault_in_args : (e : SigError) → is_some (symbol_of sig name) ≡ false → length params ≤ 64 → length args ≤ 64 → use_faults sig params args ≡ Some e → symbol_fault sig name params args r ≡ Some e
+  pub fault_in_args : (e : Flaw) → is_some (symbol_of sig name) ≡ false → length params ≤ 64 → length args ≤ 64 → use_faults sig params args ≡ Some e → symbol_fault sig name params args r ≡ Some e
   fault_in_args e new few narrow u = after_width new few narrow ∙ rw (uses-last, u) refl
 
-  pub fault_in_result : (e : SigError) → is_some (symbol_of sig name) ≡ false → length params ≤ 64 → length args ≤ 64 → use_faults sig params args ≡ None → use_fault sig params r ≡ Some e → symbol_fault sig name params args r ≡ Some e
+  pub fault_in_result : (e : Flaw) → is_some (symbol_of sig name) ≡ false → length params ≤ 64 → length args ≤ 64 → use_faults sig params args ≡ None → use_fault sig params r ≡ Some e → symbol_fault sig name params args r ≡ Some e
   fault_in_result e new few narrow u v = after_width new few narrow ∙ rw (uses-last, u, v) refl
 
   pub fault_large : is_some (symbol_of sig name) ≡ false → length params ≤ 64 → length args ≤ 64 → use_faults sig params args ≡ None → use_fault sig params r ≡ None → all_small (args ++ r ∷ []) ≡ false → symbol_fault sig name params args r ≡ Some SortTooLarge
@@ -83,7 +86,7 @@ module _ (sig : Signature) (name : Sym) (params : List Sym) (args : List Sort) (
   pub fault_loose : is_some (symbol_of sig name) ≡ false → length params ≤ 64 → length args ≤ 64 → use_faults sig params args ≡ None → use_fault sig params r ≡ None → all_small (args ++ r ∷ []) ≡ true → symbol_fault sig name params args r ≡ loose_faults (args ++ r ∷ []) params
   fault_loose new few narrow u v l = after_width new few narrow ∙ rw (uses-last, u, v, l) (last_only (loose_faults (args ++ r ∷ []) params))
     where
-      last_only : (f : Option SigError) → first_fault (f ∷ []) ≡ f
+      last_only : (f : Option Flaw) → first_fault (f ∷ []) ≡ f
       last_only None = refl
       last_only (Some e) = refl
 
@@ -97,3 +100,23 @@ module _ (sig : Signature) (name : Sym) (params : List Sym) (args : List Sort) (
 pub AreNamed-after : (a : Result (Unit {0}) SigError) (old new : List (Sym × Symbol)) (n : Sym) (s : Symbol) → AreNamed old → s.name ≡ n → OnOk a (new ≡ old ++ (n, s) ∷ []) → IfErr a (λ e. (e ≡ Memory) × (new ≡ old)) → AreNamed new
 AreNamed-after (Ok u) old new n s h m p q = rw p (AreNamed-more old (n, s) h m)
 AreNamed-after (Err e) old new n s h m p q = rw q.1 h
+
+-- the answer of a flaw is the error that tells of it
+pub flawed : (o : Option Flaw) (f : Flaw) (e : SigError) → o ≡ Some f → e ≡ error_of f → MatchFault o (Err e)
+flawed o f e is same = subst (λ (e : SigError). MatchFault o (Err e)) (sym same) (by f is)
+  where
+    by : (f : Flaw) → o ≡ Some f → MatchFault o (Err (error_of f))
+    by (flaw.Redeclared n) is = ap (option_map error_of) is
+    by (flaw.TooWide n) is = ap (option_map error_of) is
+    by (flaw.UnknownVariable n) is = ap (option_map error_of) is
+    by (flaw.UnknownSort n) is = ap (option_map error_of) is
+    by (flaw.Arity n) is = ap (option_map error_of) is
+    by flaw.SortTooLarge is = ap (option_map error_of) is
+    by (flaw.LooseParam n) is = ap (option_map error_of) is
+
+pub domain_new : (sig : Signature) (name : Sym) (arity : ℕ) → domain_fault sig name arity ≡ None → arity_of sig name ≡ None
+domain_new sig name arity h = by (arity_of sig name) refl
+  where
+    by : (o : Option ℕ) → arity_of sig name ≡ o → arity_of sig name ≡ None
+    by None e = e
+    by (Some x) e = absurd (let k = rw e at h in cc)

@@ -5,8 +5,8 @@ use Rattle.std.specs.Option.{is_some}
 use Rattle.ath_sorts.specs.declared.sorts.SVar.{SVar}
 use Rattle.ath_sorts.specs.declared.sorts.Sym.{Sym}
 use Rattle.ath_sorts.specs.declared.sorts.Sort.{Sort, Var, Con}
-use Rattle.ath_sorts.specs.Sorts.{same_svar, image, apply_to}
-use Rattle.ath_sorts.specs.Substitutions.{entry_of, after}
+use Rattle.ath_sorts.specs.Sorts.{same_svar, image, apply_to, after}
+use Rattle.ath_sorts.specs.Substitutions.{entry_of}
 use Rattle.ath_sorts.proofs.SortLaws.{sort_induction, apply-var, apply-con, Con-inj, Var-not-Con}
 use Rattle.ath_sorts.proofs.Gets.{cons-head, cons-tail, some-inj}
 

@@ -5,7 +5,8 @@ use Rattle.ath_sorts.specs.declared.sorts.SVar.{SVar}
 use Rattle.ath_sorts.specs.declared.sorts.SVar.TheVariants.{Written, Made}
 use Rattle.ath_sorts.specs.declared.sorts.Sort.{Sort, Var}
 use Rattle.ath_sorts.specs.Sorts.{same_svar, image, apply_to}
-use Rattle.ath_sorts.specs.Unifiers.{Unifies, IsLeastUnifier, comes_first, precedes, vars_read}
+use Rattle.ath_sorts.specs.Unifiers.{Unifies, IsLeastUnifier}
+use Rattle.ath_sorts.specs.Order.{comes_first, precedes, vars_read}
 use Rattle.ath_sorts.proofs.SubstitutionLaws.{apply-apply, apply-same, var-from, fixed}
 
 pub factors : (s : List (SVar × Sort)) (pairs : List (Sort × Sort)) (f : SVar → Sort) → IsLeastUnifier s pairs → Unifies f pairs → (v : SVar) → f v ≡ apply_to f (image s v)

@@ -2,8 +2,8 @@
 use Rattle.std.proofs.Common.{◌≡◌, ℕ, Bool, true, false, cond, ◌==◌, ◌||◌, List, [], ◌∷◌, ◌++◌, length, map, Option, Some, None, is_some, refl, sym, ◌∙◌, ap, subst, arith, nat_lt}
 use Rattle.std.specs.List.{list_any, AllByRecursion}
 use Rattle.ath_sorts.specs.declared.limits.TheConstants.{MOST_WIDTH}
-use Rattle.ath_sorts.specs.declared.signature.SigError.{SigError}
-use Rattle.ath_sorts.specs.declared.signature.SigError.TheVariants.{Redeclared, TooWide, Arity, SortTooLarge}
+use Rattle.ath_sorts.specs.declared.signature.Flaw.{Flaw}
+use Rattle.ath_sorts.specs.declared.signature.Flaw.TheVariants.{Redeclared, TooWide, Arity, SortTooLarge}
 use Rattle.ath_sorts.specs.declared.signature.Symbol.{Symbol}
 use Rattle.ath_sorts.specs.declared.sorts.SVar.{SVar}
 use Rattle.ath_sorts.specs.declared.sorts.SVar.TheVariants.{Written, Made}
@@ -19,14 +19,14 @@ use Rattle.ath_sorts.proofs.Gets.{map-both}
 use Rattle.ath_sorts.proofs.SortLaws.{sort_induction}
 use Rattle.ath_sorts.proofs.Bools.{true-not-false, or_parts, or_false, turned}
 
-pub first_none : (f : Option SigError) (fs : List (Option SigError)) → first_fault (f ∷ fs) ≡ None → (f ≡ None) × (first_fault fs ≡ None)
+pub first_none : (f : Option Flaw) (fs : List (Option Flaw)) → first_fault (f ∷ fs) ≡ None → (f ≡ None) × (first_fault fs ≡ None)
 first_none None fs h = (refl, h)
 first_none (Some e) fs h = absurd (cc)
 
-first_of_none : (f : Option SigError) (fs : List (Option SigError)) → f ≡ None → first_fault fs ≡ None → first_fault (f ∷ fs) ≡ None
+first_of_none : (f : Option Flaw) (fs : List (Option Flaw)) → f ≡ None → first_fault fs ≡ None → first_fault (f ∷ fs) ≡ None
 first_of_none f fs p q = rw p q
 
-no_fault : (b : Bool) (e : SigError) → fault_if b e ≡ None → b ≡ false
+no_fault : (b : Bool) (e : Flaw) → fault_if b e ≡ None → b ≡ false
 no_fault true e h = absurd (cc)
 no_fault false e h = refl
 
@@ -59,10 +59,10 @@ arity-kept [] e n k h = absurd (cc)
 arity-kept (x ∷ es) e n k h = kept_step (x.0.0 == n.0) x.1 k (arity_among es n) (arity_among (es ++ e ∷ []) n) (arity-kept es e n k) h
 
 pub use-var : (sig : Signature) (params : List Sym) (v : SVar) → use_fault sig params (Var v) ≡ use_step sig params (one.Var v)
-use-var sig params v = ap (use_fault sig params) (sym (rolls-Var v)) ∙ fold-roll-Sort (Option SigError) (use_step sig params) (one.Var v)
+use-var sig params v = ap (use_fault sig params) (sym (rolls-Var v)) ∙ fold-roll-Sort (Option Flaw) (use_step sig params) (one.Var v)
 
 pub use-con : (sig : Signature) (params : List Sym) (c : Sym) (args : List Sort) → use_fault sig params (Con c args) ≡ constructor_fault (arity_of sig c) c (map (use_fault sig params) args)
-use-con sig params c args = ap (use_fault sig params) (sym (rolls-Con c args)) ∙ fold-roll-Sort (Option SigError) (use_step sig params) (one.Con c args)
+use-con sig params c args = ap (use_fault sig params) (sym (rolls-Con c args)) ∙ fold-roll-Sort (Option Flaw) (use_step sig params) (one.Con c args)
 
 same-var-step : (sig other : Signature) (params : List Sym) (v : SVar) → use_step sig params (one.Var v) ≡ use_step other params (one.Var v)
 same-var-step sig other params (Written p) = refl
@@ -130,10 +130,10 @@ all-last P (x ∷ ss) s a p = (a.0, all-last P ss s a.1 p)
 pub symbols_keep_validity : (sig : Signature) (s : Symbol) → IsValid sig → AreDistinct s.params → list_any has_made (s.args ++ s.result ∷ []) ≡ false → symbol_fault sig s.name s.params s.args s.result ≡ None → IsValid (with_symbol sig s)
 symbols_keep_validity sig s h differ written e =
     let sorts = s.args ++ s.result ∷ [] in
-    let loose : List (Option SigError) = loose_faults sorts s.params ∷ [] in
-    let large : List (Option SigError) = cond (all_small sorts) None (Some SortTooLarge) ∷ loose in
-    let uses : List (Option SigError) = use_faults sig s.params sorts ∷ large in
-    let wide : Option SigError = fault_if (nat_lt MOST_WIDTH (length s.params) || nat_lt MOST_WIDTH (length s.args)) (TooWide s.name) in
+    let loose : List (Option Flaw) = loose_faults sorts s.params ∷ [] in
+    let large : List (Option Flaw) = cond (all_small sorts) None (Some SortTooLarge) ∷ loose in
+    let uses : List (Option Flaw) = use_faults sig s.params sorts ∷ large in
+    let wide : Option Flaw = fault_if (nat_lt MOST_WIDTH (length s.params) || nat_lt MOST_WIDTH (length s.args)) (TooWide s.name) in
     let a = first_none (fault_if (is_some (symbol_of sig s.name)) (Redeclared s.name)) (wide ∷ uses) e in
     let b = first_none wide uses a.1 in
     let c = first_none (use_faults sig s.params sorts) large b.1 in

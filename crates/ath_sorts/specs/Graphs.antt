@@ -8,10 +8,10 @@ use Rattle.ath_sorts.specs.declared.sorts.SVar.{SVar}
 use Rattle.ath_sorts.specs.declared.sorts.SVar.TheVariants.{Written, Made}
 use Rattle.ath_sorts.specs.declared.sorts.Sort.{Sort, Var, Con}
 use Rattle.ath_sorts.specs.declared.sorts.Sym.{Sym}
-use Rattle.ath_sorts.specs.Limits.{is_small}
-use Rattle.ath_sorts.specs.Sorts.{same_svar, image, apply_to}
+use Rattle.ath_sorts.specs.Sorts.{is_small, same_svar, image, apply_to}
 use Rattle.ath_sorts.specs.Substitutions.{entry_of}
-use Rattle.ath_sorts.specs.Unifiers.{Unifies, HasUnifier, MovesAll, comes_first, joined, vars_of, vars_read}
+use Rattle.ath_sorts.specs.Unifiers.{Unifies, HasUnifier, MovesAll}
+use Rattle.ath_sorts.specs.Order.{comes_first, joined, vars_of, vars_read}
 pub use Rattle.ath_sorts.specs.Partitions.{class_at, rename}
 pub use Rattle.ath_sorts.specs.Places.{LeafFree}
 

@@ -9,8 +9,7 @@ use Rattle.ath_sorts.specs.Validity.{AreDistinct, has_made, IsValid}
 use Rattle.ath_sorts.specs.declared.sorts.SVar.{SVar}
 use Rattle.ath_sorts.specs.declared.sorts.Sort.{Sort}
 use Rattle.ath_sorts.specs.Instances.{IsInstance}
-use Rattle.ath_sorts.specs.Sorts.{image, apply_to}
-use Rattle.ath_sorts.specs.Substitutions.{after}
+use Rattle.ath_sorts.specs.Sorts.{image, apply_to, after}
 use Rattle.ath_sorts.specs.Unifiers.{Unifies, IsLeastUnifier}
 
 -- to apply two substitutions in turn is to apply one

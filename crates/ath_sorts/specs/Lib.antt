@@ -1,10 +1,11 @@
 pub mod Sorts
-pub mod Limits
 pub mod Signature
 pub mod Kept
 pub mod Declaring
+pub mod Answers
 pub mod Validity
 pub mod Substitutions
+pub mod Order
 pub mod Unifiers
 pub mod Instances
 pub mod Matching

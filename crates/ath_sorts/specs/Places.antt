@@ -1,10 +1,12 @@
--- Where the variables of a graph have their nodes.
-use Rattle.std.specs.Prelude.{◌≡◌, ℕ, List, slice_get, Some}
+-- Where the variables of a graph have their nodes, and those of a substitution their entries.
+use Rattle.std.specs.Prelude.{◌≡◌, ℕ, List, slice_get, Option, Some, None, if◌then◌else◌}
 use Rattle.std.specs.Map.{lookup}
 use Rattle.ath_sorts.specs.declared.nodes.Node.{Node}
 use Rattle.ath_sorts.specs.declared.nodes.Node.TheVariants.{Leaf}
 use Rattle.ath_sorts.specs.declared.sorts.SVar.{SVar}
+use Rattle.ath_sorts.specs.declared.sorts.Sort.{Sort}
 use Rattle.ath_sorts.specs.Sorts.{same_svar}
+use Rattle.ath_sorts.specs.Substitutions.{entry_of}
 
 -- no node is the variable's
 abbrev pub LeafFree : List Node → SVar → Type 0
@@ -13,3 +15,16 @@ LeafFree nodes v = (i : ℕ) → slice_get nodes i ≡ Some (Leaf v) → ⊥
 -- the table has the node of each variable
 abbrev pub HasPlaces : List Node → List (SVar × ℕ) → Type 0
 HasPlaces nodes places = (i : ℕ) (v : SVar) → slice_get nodes i ≡ Some (Leaf v) → lookup (same_svar v) places ≡ Some i
+
+-- the sort of an entry, if it is the variable's
+abbrev pub sort_of_entry : Option (SVar × Sort) → SVar → Option Sort
+sort_of_entry None v = None
+sort_of_entry (Some e) v = if same_svar e.0 v then Some e.1 else None
+
+abbrev pub sort_there : List (SVar × Sort) → Option ℕ → SVar → Option Sort
+sort_there entries None v = None
+sort_there entries (Some i) v = sort_of_entry (slice_get entries i) v
+
+-- the table has the place of each variable's first entry; a place past the end, or of another variable, is none
+abbrev pub HasEntries : List (SVar × Sort) → List (SVar × ℕ) → Type 0
+HasEntries entries places = (v : SVar) → sort_there entries (lookup (same_svar v) places) v ≡ entry_of entries v

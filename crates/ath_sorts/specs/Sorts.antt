@@ -1,6 +1,7 @@
--- Sorts as trees: what a substitution makes of one, its nodes, its depth, and the variables in it.
-use Rattle.std.specs.Prelude.{ℕ, ◌+◌, max, Bool, false, ◌==◌, List, [], ◌∷◌, sum, if◌then◌else◌}
+-- Sorts as trees: what a substitution makes of one, its nodes and depth with their limits, and the variables in it.
+use Rattle.std.specs.Prelude.{ℕ, ◌+◌, max, Bool, false, ◌==◌, ◌&&◌, nat_le, List, [], ◌∷◌, ◌++◌, map, sum, if◌then◌else◌}
 use Rattle.std.specs.List.{list_any}
+use Rattle.ath_sorts.specs.declared.limits.TheConstants.{MOST_NODES, MOST_DEPTH}
 use Rattle.ath_sorts.specs.declared.sorts.SVar.{SVar}
 use Rattle.ath_sorts.specs.declared.sorts.SVar.TheVariants.{Written, Made}
 use Rattle.ath_sorts.specs.declared.sorts.Sort.{Sort, Var, Con}
@@ -26,6 +27,10 @@ apply_step f (one.Con c args) = Con c args
 abbrev pub apply_to : (SVar → Sort) → Sort → Sort
 apply_to f = fold-Sort Sort (apply_step f)
 
+-- two substitutions in turn, t first
+abbrev pub after : List (SVar × Sort) → List (SVar × Sort) → List (SVar × Sort)
+after s t = map (λ e. (e.0, apply_to (image s) e.1)) t ++ s
+
 abbrev pub size_step : one.Sort-F ℕ → ℕ
 size_step (one.Var v) = 1
 size_step (one.Con c args) = sum args + 1
@@ -44,6 +49,10 @@ depth_step (one.Con c args) = greatest args + 1
 
 abbrev pub depth_of : Sort → ℕ
 depth_of = fold-Sort ℕ depth_step
+
+-- at most so many nodes, and at most so deep
+abbrev pub is_small : Sort → Bool
+is_small s = nat_le (size_of s) MOST_NODES && nat_le (depth_of s) MOST_DEPTH
 
 abbrev pub occurs_step : SVar → one.Sort-F Bool → Bool
 occurs_step v (one.Var w) = same_svar v w

@@ -4,11 +4,10 @@
 // equal are one class. A class is named by one of its nodes: by one with a constructor where it has such a node, and
 // else by the node of its least variable.
 
-ghost use Rattle.std.specs.Prelude.{◌≡◌, ℕ, ◌+◌, ◌-◌, ◌<◌, ◌≤◌, ◌++◌, ◌∷◌, [], IsTrue, IfOk, OnOk, List, length, map, replicate, slice_get, SomeIff, MatchBool, MatchOption, false, ◌↔◌, Option, Some, None};
+ghost use Rattle.std.specs.Prelude.{◌≡◌, ◌+◌, ◌-◌, ◌<◌, ◌≤◌, ◌++◌, ◌∷◌, [], IsTrue, IfOk, OnOk, List, length, map, slice_get, SomeIff, MatchBool, MatchOption, false, Some, None};
 ghost use Rattle.std.specs.List.{list_all, zip};
-ghost use Rattle.ath_sorts.specs.Sorts.{size_of, depth_of};
-ghost use Rattle.ath_sorts.specs.Limits.{is_small};
-ghost use Rattle.ath_sorts.specs.Graphs.{AddsSort, Grows, HasLargeImage, HasSmallImages, HasTrees, IsClosed, IsGraph, IsNoBranch, IsNoLeaf, IsSolution, IsStuck, IsStuckAt, MarksTrees, MatchAcyclic, MatchArguments, MatchEquated, MatchJoined, MatchUnited, Stands, class_at, is_marked, is_ready, names_class, stands_before, unmarked};
+ghost use Rattle.ath_sorts.specs.Sorts.{size_of, depth_of, is_small};
+ghost use Rattle.ath_sorts.specs.Graphs.{AddsSort, Grows, HasLargeImage, HasSmallImages, HasTrees, IsClosed, IsGraph, IsNoBranch, IsNoLeaf, IsSolution, IsStuck, IsStuckAt, MarksTrees, MatchAcyclic, MatchArguments, MatchEquated, MatchJoined, MatchUnited, Stands, is_marked, is_ready, names_class, stands_before, unmarked};
 ghost use Rattle.ath_sorts.specs.declared.sorts.Sort.{Sort};
 
 use crate::limits::{MOST_DEPTH, MOST_NODES};
@@ -82,12 +81,6 @@ impl Graph {
         Ok(added)
     }
 
-    fn class_of(&self, at: usize) -> usize
-        ensures { result ≡ class_at self.now.class at }
-    {
-        self.class.class_of(at)
-    }
-
     /// Makes the classes of two nodes one, and those of arguments that this makes equal; false where constructors clash.
     fn unite(&mut self, alloc: Global, a: usize, b: usize) -> Result<bool, AllocError>
         requires graph { IsGraph self.old }
@@ -119,8 +112,8 @@ impl Graph {
         requires b_there { b < length self.old.nodes }
         ensures { IfOk result (MatchJoined self.old waiting.old self.new waiting.new a b) }
     {
-        let a = self.class_of(a);
-        let b = self.class_of(b);
+        let a = self.class.class_of(a);
+        let b = self.class.class_of(b);
         if a == b {
             return Ok(true);
         }
@@ -140,9 +133,9 @@ impl Graph {
         requires { IsGraph self.now }
         ensures { IfOk result (MatchAcyclic self.now) }
     {
-        let mut grown = vec![in alloc; false; self.nodes.len()]?;
+        let mut grown = vec![in alloc; false; self.nodes.as_slice().len()]?;
         'passes: while self.grow(&mut grown) {}
-        Ok(are_all_true(&grown))
+        Ok(!grown.contains(&false))
     }
 
     /// Marks the nodes whose arguments are marked; whether there is a new one.
@@ -178,7 +171,7 @@ impl Graph {
     fn is_ready(&self, at: usize, grown: &[bool]) -> bool
         ensures { result ≡ is_ready self.now grown.now at }
     {
-        match self.nodes.as_slice().get(self.class_of(at)) {
+        match self.nodes.as_slice().get(self.class.class_of(at)) {
             Some(Node::Leaf(_)) => true,
             Some(Node::Branch(_, children)) => are_all_marked(children.as_slice(), grown),
             None => false,
@@ -190,7 +183,7 @@ impl Graph {
         requires { HasTrees self.now }
         ensures { MatchBool result (HasSmallImages self.now) (HasLargeImage self.now) }
     {
-        for at in 0..self.nodes.len() {
+        for at in 0..self.nodes.as_slice().len() {
             if leaf_at(self.nodes.as_slice(), at).is_some() && !self.is_small(at) {
                 return false;
             }
@@ -213,7 +206,7 @@ impl Graph {
         ensures { IfOk result (IsSolution self.now (length self.now.nodes)) }
     {
         let mut solution = SortSubst::new(alloc);
-        for at in 0..self.nodes.len() {
+        for at in 0..self.nodes.as_slice().len() {
             self.add_image(alloc, at, &mut solution)?;
         }
         Ok(solution)
@@ -235,7 +228,7 @@ impl Graph {
         let Some(v) = leaf_at(self.nodes.as_slice(), at) else {
             return Ok(());
         };
-        if self.class_of(at) == at {
+        if self.class.class_of(at) == at {
             return Ok(());
         }
         let image = self.tree(alloc, at, MOST_DEPTH)?;
@@ -247,7 +240,7 @@ impl Graph {
         requires { (t : Sort) × (Grows self.now at t × (depth_of t ≤ depth)) }
         ensures { IfOk result (Grows self.now at) }
     {
-        match &self.nodes.as_slice()[self.class_of(at)] {
+        match &self.nodes.as_slice()[self.class.class_of(at)] {
             Node::Leaf(v) => Ok(Sort::Var(*v)),
             Node::Branch(name, children) => {
                 let mut args = Items::new(alloc);
@@ -267,7 +260,7 @@ impl Graph {
         if budget == 0 || depth == 0 {
             return None;
         }
-        let Some((_, children)) = branch_at(self.nodes.as_slice(), self.class_of(at)) else {
+        let Some((_, children)) = branch_at(self.nodes.as_slice(), self.class.class_of(at)) else {
             return Some(budget - 1);
         };
         let mut left = budget - 1;
@@ -376,15 +369,4 @@ fn is_marked(grown: &[bool], at: usize) -> bool
         Some(mark) => *mark,
         None => false,
     }
-}
-
-fn are_all_true(marks: &[bool]) -> bool
-    ensures { result ≡ list_all (λ m. m) marks.now }
-{
-    for mark in marks {
-        if !*mark {
-            return false;
-        }
-    }
-    true
 }

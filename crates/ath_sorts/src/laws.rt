@@ -1,38 +1,18 @@
-// Laws of signatures, substitutions, unifiers and instances. Each function is a law: its contract, and no code.
+// Laws of signatures, substitutions, unifiers and instances. Each clause is a law, and there is no code.
 
 ghost use Rattle.ath_sorts.specs.Laws.{ApplyingIsComposition, FirstSignatureIsValid, InstancesAgree, LeastUnifiersAgree, SortsKeepValidity, SymbolsKeepValidity, UnifiersFactor};
 
-/// To apply two substitutions in turn is to apply one.
-pub fn applying_is_composition()
-    ensures { ApplyingIsComposition }
-{}
-
-/// A unifier factors through the least one.
-pub fn unifiers_factor()
-    ensures { UnifiersFactor }
-{}
-
-/// Two least most general unifiers of one list of pairs are equal.
-pub fn least_unifiers_agree()
-    ensures { LeastUnifiersAgree }
-{}
-
-/// Two instances of one list off the same rigid variables are equal.
-pub fn instances_agree()
-    ensures { InstancesAgree }
-{}
-
-/// The first signature is valid.
-pub fn first_signature_is_valid()
-    ensures { FirstSignatureIsValid }
-{}
-
-/// A sort constructor that isn't refused keeps a signature valid.
-pub fn sorts_keep_validity()
-    ensures { SortsKeepValidity }
-{}
-
-/// A symbol that isn't refused keeps a signature valid, where its parameters differ and no variable in its sorts was made.
-pub fn symbols_keep_validity()
-    ensures { SymbolsKeepValidity }
+/// To apply two substitutions in turn is to apply one. A unifier factors through the least one. Two least most general
+/// unifiers of one list of pairs are equal, and so are two instances of one list off the same rigid variables.
+///
+/// The first signature is valid. A sort constructor that isn't refused keeps a signature valid, and so does a symbol, where
+/// its parameters differ and no variable in its sorts was made.
+pub fn laws()
+    ensures applying_is_composition { ApplyingIsComposition }
+    ensures unifiers_factor { UnifiersFactor }
+    ensures least_unifiers_agree { LeastUnifiersAgree }
+    ensures instances_agree { InstancesAgree }
+    ensures first_signature_is_valid { FirstSignatureIsValid }
+    ensures sorts_keep_validity { SortsKeepValidity }
+    ensures symbols_keep_validity { SymbolsKeepValidity }
 {}

@@ -15,7 +15,7 @@ mod tests;
 pub mod unification;
 
 pub use matching::instance;
-pub use signature::{SigError, Signature, Symbol};
+pub use signature::{Flaw, SigError, Signature, Symbol};
 pub use sorts::{SVar, Sort, Sym};
 pub use substitution::{SortSubst, UnifyError};
 pub use unification::unify;

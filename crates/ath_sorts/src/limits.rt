@@ -1,8 +1,7 @@
 // The limits on one sort.
 
 ghost use Rattle.std.specs.Prelude.{◌≡◌, ◌-◌, ◌≤◌, IsTrue, ◌↔◌, SomeIff};
-ghost use Rattle.ath_sorts.specs.Sorts.{size_of, depth_of};
-ghost use Rattle.ath_sorts.specs.Limits.{is_small};
+ghost use Rattle.ath_sorts.specs.Sorts.{size_of, depth_of, is_small};
 
 use crate::sorts::Sort;
 

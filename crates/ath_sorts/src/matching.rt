@@ -1,6 +1,6 @@
 // Matching of sorts.
 
-ghost use Rattle.std.specs.Prelude.{◌≡◌, ◌++◌, ◌∷◌, [], IfOk, OnOk, IsTrue, ◌↔◌};
+ghost use Rattle.std.specs.Prelude.{◌≡◌, ◌∷◌, [], IfOk};
 ghost use Rattle.ath_sorts.specs.Instances.{MatchInstance, is_rigid};
 ghost use Rattle.ath_sorts.specs.Matching.{MatchExtended};
 

@@ -1,6 +1,6 @@
 // The nodes of a graph of sorts, with a table of the variables' nodes.
 
-ghost use Rattle.std.specs.Prelude.{◌≡◌, ◌++◌, ◌∷◌, [], length, slice_get, MatchOption, OnOk, Some, IsTrue, ◌↔◌};
+ghost use Rattle.std.specs.Prelude.{◌≡◌, ◌++◌, ◌∷◌, [], slice_get, MatchOption, OnOk, Some, IsTrue, ◌↔◌};
 ghost use Rattle.ath_sorts.specs.Places.{LeafFree};
 
 use crate::sorts::{SVar, Sym};
@@ -10,7 +10,7 @@ use std::alloc::{AllocError, Global};
 use std::marker::Model;
 
 /// A place of a sort: a variable, or a constructor with the nodes of its arguments, which stand before it.
-#[derive(Debug, Drop)]
+#[derive(Drop)]
 pub enum Node {
     Leaf(SVar),
     Branch(Sym, Items<usize>),
@@ -51,12 +51,6 @@ impl Nodes {
         ensures { result.now ≡ self.now }
     {
         self.nodes.as_slice()
-    }
-
-    pub fn len(&self) -> usize
-        ensures { result ≡ length self.now }
-    {
-        self.nodes.len()
     }
 
     /// The node of the variable, if it has one.

@@ -1,7 +1,7 @@
 // Classes of nodes. Each class is a block that knows its members, so that where two are made one only the members of the
 // smaller one move.
 
-ghost use Rattle.std.specs.Prelude.{◌≡◌, ◌⊎◌, ◌↔◌, ◌++◌, ◌∷◌, [], ◌<◌, List, ℕ, length, map, slice_get, slice_set, IfOk, OnOk, OnErr, Some, IsTrue};
+ghost use Rattle.std.specs.Prelude.{◌≡◌, ◌⊎◌, ◌++◌, ◌∷◌, [], ◌<◌, List, ℕ, length, map, slice_get, slice_set, IfOk, OnOk, OnErr, Some, IsTrue};
 ghost use Rattle.ath_sorts.specs.Partitions.{class_at, rename, is_member, members_of};
 
 use sqlite_items::Items;
@@ -9,14 +9,14 @@ use std::alloc::{AllocError, Global};
 use std::marker::Model;
 
 /// The members of a class, and that one which names it.
-#[derive(Debug, Drop)]
+#[derive(Drop)]
 pub struct Block {
     name: usize,
     members: Items<usize>,
 }
 
 /// The block of each node, and the blocks. A clause sees the name of each node's class.
-#[derive(Debug, Drop)]
+#[derive(Drop)]
 pub struct Partition {
     block: Items<usize>,
     blocks: Vec<Block>,
@@ -150,17 +150,11 @@ fn file(block: &mut Items<usize>, members: &[usize], from: usize, into: usize)
 fn move_one(block: &mut Items<usize>, at: usize, from: usize, into: usize)
     ensures { ((slice_get block.old at ≡ Some from) × (block.new ≡ slice_set block.old at into)) ⊎ ((slice_get block.old at ≡ Some from → ⊥) × (block.new ≡ block.old)) }
 {
-    if !is_filed(block.as_slice(), at, from) {
+    let Some(filed) = block.get(at) else {
+        return;
+    };
+    if *filed != from {
         return;
     }
     block.set(at, into);
-}
-
-fn is_filed(block: &[usize], at: usize, under: usize) -> bool
-    ensures { IsTrue result ↔ (slice_get block.now at ≡ Some under) }
-{
-    match block.get(at) {
-        Some(filed) => *filed == under,
-        None => false,
-    }
 }

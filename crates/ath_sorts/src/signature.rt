@@ -1,13 +1,13 @@
 // Symbols, and the table of sorts and symbols that are declared.
 
-ghost use Rattle.std.specs.Prelude.{◌≡◌, ◌++◌, ◌∷◌, [], ◌==◌, is_ok, is_some, IfOk, IfErr, OnOk, None, Result, Option, if◌then◌else◌};
+ghost use Rattle.std.specs.Prelude.{◌≡◌, ◌++◌, ◌∷◌, [], ◌==◌, is_ok, is_some, IfOk, IfErr, OnOk, None, if◌then◌else◌};
 ghost use Rattle.std.specs.Option.{option_copied};
 ghost use Rattle.std.specs.List.{list_any};
 ghost use Rattle.std.specs.Map.{lookup};
 ghost use Rattle.ath_sorts.specs.Sorts.{occurs};
-ghost use Rattle.ath_sorts.specs.Limits.{is_small};
-ghost use Rattle.ath_sorts.specs.Signature.{arity_of, symbol_of, initial, truth_value};
-ghost use Rattle.ath_sorts.specs.Declaring.{MatchFault, IsFault, all_small, domain_fault, first_fault, loose_faults, symbol_fault, use_fault, use_faults, with_sort, with_symbol};
+ghost use Rattle.ath_sorts.specs.Signature.{arity_of, symbol_of, initial};
+ghost use Rattle.ath_sorts.specs.Declaring.{error_of, all_small, domain_fault, loose_faults, symbol_fault, use_fault, use_faults, with_sort, with_symbol};
+ghost use Rattle.ath_sorts.specs.Answers.{MatchFault, IsFault};
 ghost use Rattle.ath_sorts.specs.declared.signature.SigError.TheVariants.{Memory};
 
 use crate::limits::{MOST_WIDTH, is_within_limits};
@@ -19,12 +19,24 @@ use std::marker::Model;
 use thiserror::Error;
 
 /// A symbol: its sort parameters, and the sorts of its arguments and of its result over them.
-#[derive(Debug, Drop)]
+#[derive(Drop)]
 pub struct Symbol {
     pub name: Sym,
     pub params: Items<Sym>,
     pub args: Items<Sort>,
     pub result: Sort,
+}
+
+/// What is wrong with a declaration. A sort variable that isn't listed is told from a constructor that isn't there.
+#[derive(Debug, Drop)]
+pub enum Flaw {
+    Redeclared(Sym),
+    TooWide(Sym),
+    UnknownVariable(Sym),
+    UnknownSort(Sym),
+    Arity(Sym),
+    SortTooLarge,
+    LooseParam(Sym),
 }
 
 /// Why a declaration is refused.
@@ -51,6 +63,22 @@ impl From<AllocError> for SigError {
 
     fn from(_error: AllocError) -> SigError {
         SigError::Memory
+    }
+}
+
+impl From<Flaw> for SigError {
+    ghost from_gives = { λ f e. e ≡ error_of f };
+
+    fn from(flaw: Flaw) -> SigError {
+        match flaw {
+            Flaw::Redeclared(name) => SigError::Redeclared(name),
+            Flaw::TooWide(name) => SigError::TooWide(name),
+            Flaw::UnknownVariable(name) => SigError::UnknownSort(name),
+            Flaw::UnknownSort(name) => SigError::UnknownSort(name),
+            Flaw::Arity(name) => SigError::Arity(name),
+            Flaw::SortTooLarge => SigError::SortTooLarge,
+            Flaw::LooseParam(name) => SigError::LooseParam(name),
+        }
     }
 }
 
@@ -85,8 +113,11 @@ impl Signature {
         let mut sorts = IndexMap::new(alloc);
         sorts.insert(BOOLEAN, 0)?;
         let mut symbols = IndexMap::new(alloc);
-        symbols.insert(Sym(1), truth_value(alloc, Sym(1)))?;
-        symbols.insert(Sym(2), truth_value(alloc, Sym(2)))?;
+        let boolean = Sort::Con(BOOLEAN, Items::new(alloc));
+        let truth = symbol_over(alloc, Sym(1), &[], &[], &boolean)?;
+        symbols.insert(Sym(1), truth)?;
+        let falsity = symbol_over(alloc, Sym(2), &[], &[], &boolean)?;
+        symbols.insert(Sym(2), falsity)?;
         Ok(Signature { sorts, symbols })
     }
 
@@ -109,13 +140,21 @@ impl Signature {
         ensures answer { MatchFault (domain_fault self.old name arity) result }
         ensures after { self.new ≡ (if is_ok result then with_sort self.old name arity else self.old) }
     {
+        self.check_domain(name, arity)?;
+        file(&mut self.sorts, name, arity)
+    }
+
+    /// Refuses a sort constructor as `add_domain` does, and adds nothing.
+    pub fn check_domain(&self, name: Sym, arity: usize) -> Result<(), Flaw>
+        ensures { IsFault (domain_fault self.now name arity) result }
+    {
         if self.sort_arity(name).is_some() {
-            return Err(SigError::Redeclared(name));
+            return Err(Flaw::Redeclared(name));
         }
         if arity > MOST_WIDTH {
-            return Err(SigError::TooWide(name));
+            return Err(Flaw::TooWide(name));
         }
-        file(&mut self.sorts, name, arity)
+        Ok(())
     }
 
     /// Adds a symbol. Its written variables are to be among `params`, which differ.
@@ -135,36 +174,38 @@ impl Signature {
         file(&mut self.symbols, name, symbol)
     }
 
-    fn has_symbol(&self, name: Sym) -> bool
+    /// Whether there is a symbol of this name.
+    pub fn has_symbol(&self, name: Sym) -> bool
         ensures { result ≡ is_some (symbol_of self.now name) }
     {
         self.symbol(name).is_some()
     }
 
-    fn check_symbol(
+    /// Refuses a symbol as `add_symbol` does, and adds nothing.
+    pub fn check_symbol(
         &self,
         name: Sym,
         params: &[Sym],
         args: &[Sort],
         result_sort: &Sort,
-    ) -> Result<(), SigError>
+    ) -> Result<(), Flaw>
         ensures { IsFault (symbol_fault self.now name params.now args.now result_sort.now) result }
     {
         if self.has_symbol(name) {
-            return Err(SigError::Redeclared(name));
+            return Err(Flaw::Redeclared(name));
         }
         if params.len() > MOST_WIDTH || args.len() > MOST_WIDTH {
-            return Err(SigError::TooWide(name));
+            return Err(Flaw::TooWide(name));
         }
         self.check_uses(params, args)?;
         self.check_use(params, result_sort)?;
         if !are_within_limits(args, result_sort) {
-            return Err(SigError::SortTooLarge);
+            return Err(Flaw::SortTooLarge);
         }
         check_loose(params, args, result_sort)
     }
 
-    fn check_uses(&self, params: &[Sym], sorts: &[Sort]) -> Result<(), SigError>
+    fn check_uses(&self, params: &[Sym], sorts: &[Sort]) -> Result<(), Flaw>
         ensures { IsFault (use_faults self.now params.now sorts.now) result }
     {
         for sort in sorts {
@@ -173,24 +214,24 @@ impl Signature {
         Ok(())
     }
 
-    fn check_use(&self, params: &[Sym], sort: &Sort) -> Result<(), SigError>
+    fn check_use(&self, params: &[Sym], sort: &Sort) -> Result<(), Flaw>
         ensures { IsFault (use_fault self.now params.now sort.now) result }
     {
         match sort {
             Sort::Var(SVar::Made(_)) => Ok(()),
             Sort::Var(SVar::Written(param)) => {
-                if is_among(*param, params) {
+                if params.contains(param) {
                     Ok(())
                 } else {
-                    Err(SigError::UnknownSort(*param))
+                    Err(Flaw::UnknownVariable(*param))
                 }
             }
             Sort::Con(name, args) => {
                 let Some(arity) = self.sort_arity(*name) else {
-                    return Err(SigError::UnknownSort(*name));
+                    return Err(Flaw::UnknownSort(*name));
                 };
                 if arity != args.len() {
-                    return Err(SigError::Arity(*name));
+                    return Err(Flaw::Arity(*name));
                 }
                 for arg in args.as_slice() {
                     self.check_use(params, arg)?;
@@ -213,12 +254,6 @@ fn file<V: Drop>(table: &mut IndexMap<Sym, V>, name: Sym, value: V) -> Result<()
     }
 }
 
-fn is_among(name: Sym, names: &[Sym]) -> bool
-    ensures { result ≡ list_any (λ q. q.0 == name.0) names.now }
-{
-    names.iter().any(|q| q.0 == name.0)
-}
-
 #[tactic(auto, using(crate::proofs::SignatureLaws::with_last))]
 fn are_within_limits(args: &[Sort], result_sort: &Sort) -> bool
     ensures { result ≡ all_small (args.now ++ result_sort.now ∷ []) }
@@ -232,12 +267,12 @@ fn are_within_limits(args: &[Sort], result_sort: &Sort) -> bool
 }
 
 /// Refuses the first parameter that occurs in no argument and not in the result.
-fn check_loose(params: &[Sym], args: &[Sort], result_sort: &Sort) -> Result<(), SigError>
+fn check_loose(params: &[Sym], args: &[Sort], result_sort: &Sort) -> Result<(), Flaw>
     ensures { IsFault (loose_faults (args.now ++ result_sort.now ∷ []) params.now) result }
 {
     for param in params {
         if !occurs_among(*param, args, result_sort) {
-            return Err(SigError::LooseParam(*param));
+            return Err(Flaw::LooseParam(*param));
         }
     }
     Ok(())
@@ -275,16 +310,4 @@ fn symbol_over(
         args: copies,
         result: copied(alloc, result_sort)?,
     })
-}
-
-/// A constant of sort Boolean.
-fn truth_value(alloc: Global, name: Sym) -> Symbol
-    ensures { result ≡ truth_value name }
-{
-    Symbol {
-        name,
-        params: Items::new(alloc),
-        args: Items::new(alloc),
-        result: Sort::Con(BOOLEAN, Items::new(alloc)),
-    }
 }

@@ -7,11 +7,11 @@ use sqlite_items::Items;
 use std::alloc::{AllocError, Global};
 
 /// The number of a name. The sort Boolean has 0, the constants `true` and `false` have 1 and 2.
-#[derive(Clone, Copy, Debug, PartialEq, Eq, PartialOrd, Ord, Hash)]
+#[derive(Clone, Copy, Debug, PartialEq, Eq, Hash)]
 pub struct Sym(pub usize);
 
 /// A sort variable: one that was written, by its name, or one that was made, by its number.
-#[derive(Clone, Copy, Debug, PartialEq, Eq, PartialOrd, Ord, Hash)]
+#[derive(Clone, Copy, Debug, PartialEq, Eq, Hash)]
 pub enum SVar {
     Written(Sym),
     Made(u64),

@@ -2,13 +2,13 @@
 
 ghost use Rattle.std.specs.Prelude.{◌≡◌, ◌++◌, ◌∷◌, [], OnOk, ◌-◌, ◌≤◌, IsTrue, ◌↔◌, SomeIff, IfOk, map};
 ghost use Rattle.std.specs.Option.{option_copied};
-ghost use Rattle.ath_sorts.specs.Sorts.{image, apply_to, size_of, depth_of};
-ghost use Rattle.ath_sorts.specs.Limits.{is_small};
+ghost use Rattle.ath_sorts.specs.Sorts.{image, apply_to, size_of, depth_of, is_small};
 ghost use Rattle.ath_sorts.specs.Substitutions.{MatchApplied, entry_of};
 ghost use Rattle.ath_sorts.specs.declared.substitution.UnifyError.TheVariants.{Memory};
 
 use crate::limits::{MOST_DEPTH, MOST_NODES, is_depth_within, nodes_left};
 use crate::sorts::{SVar, Sort, copied};
+use indexmap::IndexMap;
 use sqlite_items::Items;
 use std::alloc::{AllocError, Global};
 use std::marker::Model;
@@ -34,10 +34,12 @@ impl From<AllocError> for UnifyError {
     }
 }
 
-/// A finite map from sort variables to sorts. A variable that isn't in it stays as it is.
-#[derive(Debug, Drop)]
+/// A finite map from sort variables to sorts, with a table of the variables' first entries. A variable that isn't in it
+/// stays as it is.
+#[derive(Drop)]
 pub struct SortSubst {
     entries: Vec<(SVar, Sort)>,
+    places: IndexMap<SVar, usize>,
 }
 
 impl Model for SortSubst {
@@ -46,12 +48,15 @@ impl Model for SortSubst {
     ghost use Rattle.ath_sorts.specs.declared.sorts.Sort.{Sort};
     ghost use Rattle.ath_sorts.specs.contracts.sorts.Sort as sort;
     ghost use Rattle.std.specs.Coded.{codes};
+    ghost use Rattle.ath_sorts.specs.Places.{HasEntries};
 
     ghost Value = { List (SVar × Sort) };
 
     ghost coded = { Prim.hlevel (codes, sort.the_row.coded) };
 
     ghost view = { λ s. s.entries.items };
+
+    ghost invariant = { λ s. HasEntries s.entries.items s.places.entries };
 }
 
 impl SortSubst {
@@ -61,6 +66,7 @@ impl SortSubst {
     {
         SortSubst {
             entries: Vec::new(alloc),
+            places: IndexMap::new(alloc),
         }
     }
 
@@ -68,6 +74,12 @@ impl SortSubst {
     pub fn push(&mut self, v: SVar, sort: Sort) -> Result<(), AllocError>
         ensures { OnOk result (self.new ≡ self.old ++ (v, sort) ∷ []) }
     {
+        if self.get(v).is_some() {
+            self.entries.push((v, sort))?;
+            return Ok(());
+        }
+        let at = self.entries.as_slice().len();
+        self.places.insert(v, at)?;
         self.entries.push((v, sort))?;
         Ok(())
     }
@@ -76,12 +88,17 @@ impl SortSubst {
     pub fn get(&self, v: SVar) -> Option<&Sort>
         ensures { option_copied result ≡ entry_of self.now v }
     {
-        for entry in self.entries.as_slice() {
-            if entry.0.is_same(v) {
-                return Some(&entry.1);
-            }
+        let Some(at) = self.places.get(&v) else {
+            return None;
+        };
+        let Some(entry) = self.entries.as_slice().get(*at) else {
+            return None;
+        };
+        if entry.0.is_same(v) {
+            Some(&entry.1)
+        } else {
+            None
         }
-        None
     }
 
     /// The sort with each variable replaced by what it is mapped to.

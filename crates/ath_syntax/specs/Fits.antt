@@ -1,6 +1,6 @@
 -- Which nodes may be added, by the nodes that are there: their parts are of the kinds that the grammar gives, lists
 -- aren't empty and names differ where they must, and no node has more than 4194304 parts and names.
-use Rattle.std.specs.Prelude.{◌≡◌, ℕ, ◌+◌, ◌*◌, ◌<◌, ◌≤◌, ◌==◌, List, length, map, take, Bool, true, false, not, Option, Some, None, All, slice_get}
+use Rattle.std.specs.Prelude.{◌≡◌, ℕ, ◌+◌, ◌*◌, ◌<◌, ◌≤◌, List, length, map, take, Bool, true, false, not, Option, Some, None, All, slice_get}
 use Rattle.std.specs.List.{IsDistinct, filter}
 use Rattle.ath_sorts.specs.declared.sorts.Sym.{Sym}
 use Rattle.ath_syntax.specs.declared.node.PhraseId.{PhraseId}
@@ -13,7 +13,7 @@ use Rattle.ath_syntax.specs.declared.node.PatNode.TheVariants.{Any, Name as PatN
 use Rattle.ath_syntax.specs.Nodes.{Nodes, kind_at}
 use Rattle.ath_syntax.specs.Size.{patterns_size}
 use Rattle.ath_syntax.specs.Stands.{ArePatterns}
-use Rattle.ath_syntax.specs.Tree.{Patterns}
+use Rattle.ath_syntax.specs.Tree.{Patterns, same_name}
 
 abbrev pub most : ℕ
 most = 4194304
@@ -42,9 +42,6 @@ is_closure (Some n) = is_closure_form n.form
 -- a `lambda` or a `method`
 abbrev pub IsClosure : Nodes → PhraseId → Type 0
 IsClosure s i = is_closure (slice_get s.phrases i.0) ≡ true
-
-abbrev pub same_name : Sym → Sym → Bool
-same_name x y = x.0 == y.0
 
 -- one name, `_`, may stand for any parameter
 pub record ParamsDiffer (xs : List Sym) : Type 0 where

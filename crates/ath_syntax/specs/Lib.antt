@@ -1,5 +1,6 @@
 pub mod Fits
 pub mod Nodes
+pub mod Places
 pub mod Proper
 pub mod Size
 pub mod Stands

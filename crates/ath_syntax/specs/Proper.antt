@@ -1,11 +1,10 @@
 -- Trees of which nodes can be made: parts are of the kinds that the grammar gives, lists aren't empty and names differ
 -- where they must, and no node has more than 4194304 parts and names.
-use Rattle.std.specs.Prelude.{◌≡◌, ℕ, ◌+◌, ◌*◌, ◌<◌, ◌≤◌, List, [], ◌∷◌, length, Bool, true, false, Option, Some, None}
+use Rattle.std.specs.Prelude.{◌≡◌, ℕ, ◌+◌, ◌*◌, ◌<◌, ◌≤◌, length, Bool, true, false, Option, Some, None}
 use Rattle.std.specs.List.{IsDistinct}
-use Rattle.ath_sorts.specs.declared.sorts.Sym.{Sym}
-use Rattle.ath_syntax.specs.Fits.{IsSomeWord, ParamsDiffer, most, same_name}
+use Rattle.ath_syntax.specs.Fits.{IsSomeWord, ParamsDiffer, most}
 use Rattle.ath_syntax.specs.Size.{patterns_size}
-use Rattle.ath_syntax.specs.Tree.{Pattern, any_pattern, name_pattern, string_pattern, list_pattern, list_of_pattern, app_pattern, some_pattern, Patterns, no_patterns, more_patterns, Phrase, name_at, variable_at, string_at, list_at, ascribe_at, apply_at, call_at, lambda_at, method_at, let_at, letrec_at, match_at, check_at, try_at, seq_at, assume_at, absurd_at, pick_any_at, pick_witness_at, induct_at, cases_at, conclude_at, Phrases, no_phrases, more_phrases, Bindings, no_bindings, more_bindings, Clauses, no_clauses, more_clauses, Branches, no_branches, more_branches, Otherwise, no_else, else_phrase, is_deduction, phrases_deduce, clauses_deduce, branches_deduce, Statement, domain_is, datatype_is, declare_is, define_is, define_fun_is, assert_is, load_is, phrase_is, DirectiveTree, directive_at}
+use Rattle.ath_syntax.specs.Tree.{Pattern, any_pattern, name_pattern, string_pattern, list_pattern, list_of_pattern, app_pattern, some_pattern, Patterns, no_patterns, more_patterns, Phrase, name_at, variable_at, string_at, list_at, ascribe_at, apply_at, call_at, lambda_at, method_at, let_at, letrec_at, match_at, check_at, try_at, seq_at, assume_at, absurd_at, pick_any_at, pick_witness_at, induct_at, cases_at, conclude_at, Phrases, no_phrases, more_phrases, Bindings, no_bindings, more_bindings, Clauses, no_clauses, more_clauses, Branches, no_branches, more_branches, Otherwise, no_else, else_phrase, is_deduction, phrases_deduce, clauses_deduce, branches_deduce, Statement, domain_is, datatype_is, declare_is, define_is, define_fun_is, assert_is, load_is, phrase_is, DirectiveTree, directive_at, same_name, bound_names}
 
 abbrev mutual
   pub ProperPattern : Pattern → Type 0
@@ -28,10 +27,6 @@ phrases_count (more_phrases x xs) = 1 + phrases_count xs
 abbrev pub bindings_count : Bindings → ℕ
 bindings_count no_bindings = 0
 bindings_count (more_bindings n x bs) = 1 + bindings_count bs
-
-abbrev pub bound_names : Bindings → List Sym
-bound_names no_bindings = []
-bound_names (more_bindings n x bs) = n ∷ bound_names bs
 
 abbrev pub clauses_count : Clauses → ℕ
 clauses_count no_clauses = 0

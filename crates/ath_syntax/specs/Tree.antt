@@ -1,5 +1,5 @@
 -- Phrases, patterns and directives as trees, each phrase with its place, and the kind of a phrase.
-use Rattle.std.specs.Prelude.{ℕ, List, Bool, true, false, Option}
+use Rattle.std.specs.Prelude.{ℕ, ◌==◌, List, [], ◌∷◌, Bool, true, false, Option}
 use Rattle.ath_sorts.specs.declared.sorts.Sym.{Sym}
 use Rattle.ath_syntax.specs.declared.place.Pos.{Pos}
 use Rattle.ath_syntax.specs.declared.node.SortText.{SortText}
@@ -67,6 +67,13 @@ mutual
   pub data Otherwise : Type 0 where
     no_else : Otherwise
     else_phrase : Phrase → Otherwise
+
+abbrev pub same_name : Sym → Sym → Bool
+same_name x y = x.0 == y.0
+
+abbrev pub bound_names : Bindings → List Sym
+bound_names no_bindings = []
+bound_names (more_bindings n x bs) = n ∷ bound_names bs
 
 -- whether a phrase is a deduction; the others are expressions
 abbrev mutual

@@ -7,17 +7,16 @@ use Rattle.ath_sorts.specs.declared.sorts.SVar.{SVar}
 use Rattle.ath_sorts.specs.declared.sorts.SVar.TheVariants.{Written, Made}
 use Rattle.ath_sorts.specs.declared.sorts.Sort.{Sort, Var}
 use Rattle.ath_sorts.specs.declared.signature.Symbol.{Symbol}
-use Rattle.ath_sorts.specs.Limits.{is_small}
+use Rattle.ath_sorts.specs.Sorts.{is_small, image, apply_to}
 use Rattle.ath_sorts.specs.Signature.{Signature, symbol_of, symbol_among, at_sorts}
 use Rattle.ath_sorts.specs.Declaring.{use_faults, use_fault}
-use Rattle.ath_sorts.specs.Sorts.{image, apply_to}
 use Rattle.ath_sorts.specs.Unifiers.{Unifies}
 use Rattle.ath_sorts.proofs.Bools.{and_parts, same_num}
 use Rattle.ath_sorts.proofs.Gets.{some-inj}
 use Rattle.ath_sorts.proofs.ValidityLaws.{first_none}
 use Rattle.ath_trees.specs.declared.node.TermId.{TermId}
 use Rattle.ath_terms.specs.declared.measure.BuildError.{BuildError}
-use Rattle.ath_terms.specs.declared.measure.BuildError.TheVariants.{SortClash, ArgCount, NotBoolean, TooLarge, TooDeep, SortTooLarge, Memory}
+use Rattle.ath_terms.specs.declared.measure.BuildError.TheVariants.{ArgCount}
 use Rattle.ath_terms.specs.declared.node.TermNode.TheVariants.{App}
 use Rattle.ath_terms.specs.Lists.{AreTerms}
 use Rattle.ath_terms.specs.Nodes.{term_tree}
@@ -30,7 +29,10 @@ use Rattle.ath_terms.specs.SortsIn.{IsSortedIn}
 use Rattle.ath_trees.specs.Variables.{with_terms}
 use Rattle.ath_trees.specs.Under.{term_under, terms_under}
 use Rattle.ath_trees.specs.WellSorted.{is_valid_sort, HasSort, app_has, HaveSorts, none_has, more_has}
-use Rattle.ath_terms.specs.Construction.{made_sorts, variable_pairs, Measure, term_measure, app_plan, MatchSolved, MatchMeasured, MatchRefused, MatchTerm, MatchApp}
+use Rattle.ath_terms.specs.Construction.{made_sorts, variable_pairs, Measure, term_measure, app_plan, counts, refuses, made_app}
+use Rattle.ath_terms.specs.Answers.{IsTermBuilt}
+use Rattle.ath_terms.specs.Steps.{MatchSolved, MatchMeasured}
+use Rattle.ath_terms.proofs.Planned.{app_built, app_miscounted}
 use Rattle.ath_trees.proofs.ValidSorts.{both_true, valid-var, valid_under, valid_all_under, use_valid, at_sorts_under, all_at_sorts_under, symbol_good, IsGood}
 use Rattle.ath_trees.proofs.UnderLaws.{sort_in-is, have_sorts-under, listed-under, size-under, depth-under}
 use Rattle.ath_terms.proofs.WithinLaws.{all-map}
@@ -119,8 +121,11 @@ module _ (sig : Signature) (old : Trees) (d : Symbol) (first : ℕ) (ids : List 
       let k = kept-are sig old ids sorted inside in
       pairs_are ∙ (λ i. zip (all_at d.args i) (sym k i) ++ variable_pairs (with_terms [] (listed (trees_of old ids))))
 
-  pub app-unsolved : (e : BuildError) → MatchSolved pairs (Err e) → MatchRefused (app_plan sig first d (trees_of old ids)).pairs (λ f. term_measure sig ((app_plan sig first d (trees_of old ids)).tree f)) e
-  app-unsolved e h = refused-solve (app_plan sig first d (trees_of old ids)).pairs (λ f. term_measure sig ((app_plan sig first d (trees_of old ids)).tree f)) e (subst (λ (ps : List (Sort × Sort)). MatchSolved ps (Err e)) listed_are h)
+  counted : length d.args ≡ length (trees_of old ids)
+  counted = same ∙ sym (lengths (λ (i : TermId). term_at old.terms i.0) ids)
+
+  pub app-unsolved : (new : Trees) (e : BuildError) → MatchSolved pairs (Err e) → IsTermBuilt sig new (made_app sig first d (trees_of old ids)) (Err e)
+  app-unsolved new e h = app_built sig new first d (trees_of old ids) (Err e) counted (refused-solve (app_plan sig first d (trees_of old ids)).pairs (λ f. term_measure sig ((app_plan sig first d (trees_of old ids)).tree f)) e (subst (λ (ps : List (Sort × Sort)). MatchSolved ps (Err e)) listed_are h))
 
   -- the sort of the result, under a substitution
   result_under : (f : SVar → Sort) → apply_to f result ≡ at_sorts d.params (map (apply_to f) (made_sorts first d.params)) d.result
@@ -161,15 +166,15 @@ module _ (sig : Signature) (old : Trees) (d : Symbol) (first : ℕ) (ids : List 
     solved_listed : MatchSolved (app_plan sig first d (trees_of old ids)).pairs (Ok u)
     solved_listed = subst (λ (ps : List (Sort × Sort)). MatchSolved ps (Ok u)) listed_are solved
 
-    pub app-unmeasured : (e : BuildError) → MatchMeasured (app_measure (image u)) (Err e) → MatchRefused (app_plan sig first d (trees_of old ids)).pairs (λ f. term_measure sig ((app_plan sig first d (trees_of old ids)).tree f)) e
-    app-unmeasured e h = refused-measure (app_plan sig first d (trees_of old ids)).pairs (λ f. term_measure sig ((app_plan sig first d (trees_of old ids)).tree f)) u e solved_listed (measured-is (app_measure (image u)) (term_measure sig ((app_plan sig first d (trees_of old ids)).tree (image u))) (Err e) (measure_is (image u)) h)
+    pub app-unmeasured : (new : Trees) (e : BuildError) → MatchMeasured (app_measure (image u)) (Err e) → IsTermBuilt sig new (made_app sig first d (trees_of old ids)) (Err e)
+    app-unmeasured new e h = app_built sig new first d (trees_of old ids) (Err e) counted (refused-measure (app_plan sig first d (trees_of old ids)).pairs (λ f. term_measure sig ((app_plan sig first d (trees_of old ids)).tree f)) u e solved_listed (measured-is (app_measure (image u)) (term_measure sig ((app_plan sig first d (trees_of old ids)).tree (image u))) (Err e) (measure_is (image u)) h))
 
     -- the tree as the code builds it
     tree_is : term_under (image u) (app d.name made (listed (trees_of old ids))) ≡ (app_plan sig first d (trees_of old ids)).tree (image u)
     tree_is = ap (λ (l : List Sort). term_under (image u) (app d.name l (listed (trees_of old ids)))) made_are
 
-    pub app-built : (new : Trees) (r : TermId) (v : Unit {0}) → MatchMeasured (app_measure (image u)) (Ok v) → IsTermOf new r.0 (term_under (image u) (app d.name made (listed (trees_of old ids)))) (apply_to (image u) result) → MatchTerm sig new (app_plan sig first d (trees_of old ids)) (Ok r)
-    app-built new r v h is = (
+    pub app-built : (new : Trees) (r : TermId) (v : Unit {0}) → MatchMeasured (app_measure (image u)) (Ok v) → IsTermOf new r.0 (term_under (image u) (app d.name made (listed (trees_of old ids)))) (apply_to (image u) result) → IsTermBuilt sig new (made_app sig first d (trees_of old ids)) (Ok r)
+    app-built new r v h is = app_built sig new first d (trees_of old ids) (Ok r) counted (
       u,
       (
         within-measure (app_plan sig first d (trees_of old ids)).pairs (term_measure sig ((app_plan sig first d (trees_of old ids)).tree (image u))) u v solved_listed (measured-is (app_measure (image u)) (term_measure sig ((app_plan sig first d (trees_of old ids)).tree (image u))) (Ok v) (measure_is (image u)) h),
@@ -212,24 +217,17 @@ pub app-has : (sig : Signature) (x y : Term) (r q : Sort) → x ≡ y → r ≡ 
 app-has sig x y r q p e h = rw (p, e) h
 
 -- ---- the whole
-pub app-counted : (sig : Signature) (new : Trees) (n : ℕ) (d : Symbol) (args : List Term) (r : Result TermId BuildError) → length d.args ≡ length args → MatchTerm sig new (app_plan sig n d args) r → MatchApp sig new n d args r
-app-counted sig new n d args (Ok t) l h = (l, h)
-app-counted sig new n d args (Err (SortClash a b)) l h = (l, h)
-app-counted sig new n d args (Err (ArgCount a b)) l h = absurd h
-app-counted sig new n d args (Err (NotBoolean t)) l h = absurd h
-app-counted sig new n d args (Err (TooLarge k)) l h = (l, h)
-app-counted sig new n d args (Err (TooDeep k)) l h = (l, h)
-app-counted sig new n d args (Err SortTooLarge) l h = (l, h)
-app-counted sig new n d args (Err Memory) l h = (l, h)
-
 -- the symbol that is found is found under its own name
 pub found-there : (sig : Signature) (f : Sym) (s : Symbol) → symbol_of sig f ≡ Some s → symbol_of sig s.name ≡ Some s
 found-there sig f s e = ap (symbol_of sig) (found-name sig.symbols f s e) ∙ e
 
-pub app-whole : (sig : Signature) (new : Trees) (n : ℕ) (f : Sym) (s d : Symbol) (args : List Term) (r : Result TermId BuildError) → symbol_of sig f ≡ Some s → symbol_of sig f ≡ Some d → length s.args ≡ length args → MatchTerm sig new (app_plan sig n s args) r → MatchApp sig new n d args r
-app-whole sig new n f s d args r p q l h =
-    let e : s ≡ d = some-inj s d (sym p ∙ q) in
-    subst (λ (x : Symbol). MatchApp sig new n x args r) e (app-counted sig new n s args r l h)
+pub app-whole : (sig : Signature) (new : Trees) (n : ℕ) (f : Sym) (s d : Symbol) (args : List Term) (r : Result TermId BuildError) → symbol_of sig f ≡ Some s → symbol_of sig f ≡ Some d → IsTermBuilt sig new (made_app sig n s args) r → IsTermBuilt sig new (made_app sig n d args) r
+app-whole sig new n f s d args r p q h = subst (λ (x : Symbol). IsTermBuilt sig new (made_app sig n x args) r) (some-inj s d (sym p ∙ q)) h
+
+-- another number of arguments
+pub app-other : (sig : Signature) (new : Trees) (n : ℕ) (f : Sym) (s d : Symbol) (args : List Term) (want given : ℕ) → symbol_of sig f ≡ Some s → symbol_of sig f ≡ Some d → want ≡ length s.args → given ≡ length args → (want ≡ given → ⊥) → IsTermBuilt sig new (made_app sig n d args) (Err (ArgCount want given))
+app-other sig new n f s d args want given p q e g other =
+    app-whole sig new n f s d args (Err (ArgCount want given)) p q (app_miscounted sig n s args (λ k. other (e ∙ k ∙ sym g)) ∙ (λ i. refuses (counts (sym e i) (sym g i))))
 
 pub trees-counted : (s : Trees) (ids : List TermId) → length (trees_of s ids) ≡ length ids
 trees-counted s ids = lengths (λ (i : TermId). term_at s.terms i.0) ids

@@ -21,7 +21,10 @@ use Rattle.ath_terms.specs.SortsIn.{IsSortedIn}
 use Rattle.ath_trees.specs.Under.{sent_under}
 use Rattle.ath_trees.specs.Variables.{with_sents}
 use Rattle.ath_trees.specs.WellSorted.{is_valid_sort, AreWellSorted}
-use Rattle.ath_terms.specs.Construction.{takes, grouped, connected, connective_plan, variable_pairs, sent_measure, MatchSolved, MatchMeasured, MatchRefused, MatchSent}
+use Rattle.ath_terms.specs.Construction.{takes, grouped, connected, connective_plan, variable_pairs, sent_measure, Built, constructed, made_connective}
+use Rattle.ath_terms.specs.Steps.{MatchSolved, MatchMeasured}
+use Rattle.ath_terms.specs.Answers.{IsSentBuilt}
+use Rattle.ath_terms.proofs.Planned.{MatchSent, sent_built}
 use Rattle.ath_trees.proofs.UnderLaws.{sent_size-under, sent_depth-under}
 use Rattle.ath_terms.proofs.UnifierValid.{unifier_valid}
 use Rattle.ath_terms.proofs.ConstructionLaws.{measured-is, refused-solve, refused-measure, within-measure, sents_vars-valid, variable_pairs-valid}
@@ -78,22 +81,35 @@ are-well : (sig : Signature) (s : Trees) (ids : List SentId) → IsSortedIn sig 
 are-well sig s [] h all = tt
 are-well sig s (i ∷ ids) h all = (h.sents i.0 (all 0 i (omega arith)), are-well sig s ids h (λ k d l. all (suc k) d (omega arith)))
 
-module _ (sig : Signature) (ps : List Sent) (whole : Sent) (pairs : List (Sort × Sort)) (are : pairs ≡ variable_pairs (with_sents [] ps)) where
-  pub connective-unsolved : (e : BuildError) → MatchSolved pairs (Err e) → MatchRefused (variable_pairs (with_sents [] ps)) (λ f. sent_measure sig (sent_under f whole)) e
-  connective-unsolved e h = refused-solve (variable_pairs (with_sents [] ps)) (λ f. sent_measure sig (sent_under f whole)) e (subst (λ (l : List (Sort × Sort)). MatchSolved l (Err e)) are h)
+module _ (sig : Signature) (c : Conn) (ps : List Sent) (n : ℕ) (count : takes c n ≡ true) (many : length ps ≡ n) (pairs : List (Sort × Sort)) (are : pairs ≡ variable_pairs (with_sents [] ps)) where
+  abbrev whole : Sent
+  whole = connected c ps
+
+  the_plan : made_connective sig c ps ≡ constructed (connective_plan ps whole) (sent_measure sig)
+  the_plan = rw (ap (takes c) many ∙ count) refl
+
+  the_whole : (new : Trees) (r : Result SentId BuildError) → MatchSent sig new (connective_plan ps whole) r → IsSentBuilt new (made_connective sig c ps) r
+  the_whole new r h = subst (λ (b : Built Sent). IsSentBuilt new b r) (sym the_plan) (sent_built sig new (connective_plan ps whole) r h)
+
+  pub connective-unsolved : (new : Trees) (e : BuildError) → MatchSolved pairs (Err e) → IsSentBuilt new (made_connective sig c ps) (Err e)
+  connective-unsolved new e h = the_whole new (Err e) (refused-solve (variable_pairs (with_sents [] ps)) (λ f. sent_measure sig (sent_under f whole)) e (subst (λ (l : List (Sort × Sort)). MatchSolved l (Err e)) are h))
 
   module _ (u : List (SVar × Sort)) (solved : MatchSolved pairs (Ok u)) where
     solved_listed : MatchSolved (variable_pairs (with_sents [] ps)) (Ok u)
     solved_listed = subst (λ (l : List (Sort × Sort)). MatchSolved l (Ok u)) are solved
 
-    pub connective-unmeasured : (e : BuildError) → MatchMeasured (sent_measure sig (sent_under (image u) whole)) (Err e) → MatchRefused (variable_pairs (with_sents [] ps)) (λ f. sent_measure sig (sent_under f whole)) e
-    connective-unmeasured e h = refused-measure (variable_pairs (with_sents [] ps)) (λ f. sent_measure sig (sent_under f whole)) u e solved_listed h
+    pub connective-unmeasured : (new : Trees) (e : BuildError) → MatchMeasured (sent_measure sig (sent_under (image u) whole)) (Err e) → IsSentBuilt new (made_connective sig c ps) (Err e)
+    connective-unmeasured new e h = the_whole new (Err e) (refused-measure (variable_pairs (with_sents [] ps)) (λ f. sent_measure sig (sent_under f whole)) u e solved_listed h)
 
-    pub connective-built : (new : Trees) (r : SentId) (v : Unit {0}) → MatchMeasured (sent_measure sig (sent_under (image u) whole)) (Ok v) → IsSent new r.0 (sent_under (image u) whole) → MatchSent sig new (connective_plan ps whole) (Ok r)
-    connective-built new r v h is = (u, (within-measure (variable_pairs (with_sents [] ps)) (sent_measure sig (sent_under (image u) whole)) u v solved_listed h, is))
+    pub connective-built : (new : Trees) (r : SentId) (v : Unit {0}) → MatchMeasured (sent_measure sig (sent_under (image u) whole)) (Ok v) → IsSent new r.0 (sent_under (image u) whole) → IsSentBuilt new (made_connective sig c ps) (Ok r)
+    connective-built new r v h is = the_whole new (Ok r) ((u, (within-measure (variable_pairs (with_sents [] ps)) (sent_measure sig (sent_under (image u) whole)) u v solved_listed h, is)))
 
     pub connective-valid : AreWellSorted sig ps → (v : SVar) → is_valid_sort sig (image u v) ≡ true
     connective-valid w = unifier_valid sig u (variable_pairs (with_sents [] ps)) solved_listed.0 (variable_pairs-valid sig (with_sents [] ps) (sents_vars-valid sig [] ps tt w))
 
 pub parts-well : (sig : Signature) (s : Trees) (ids : List SentId) → IsSortedIn sig s → All (λ i. i.0 < length s.sents) ids → AreWellSorted sig (sents_of s ids)
 parts-well sig s ids h all = are-well sig s ids h all
+
+pub sents-counted : (s : Trees) (ids : List SentId) → length (sents_of s ids) ≡ length ids
+sents-counted s [] = refl
+sents-counted s (i ∷ ids) = ap suc (sents-counted s ids)

@@ -1,6 +1,6 @@
 -- What a construction answers, from what its steps answer.
-use Rattle.std.proofs.Common.{◌≡◌, Bool, true, false, cond, List, [], ◌∷◌, ◌++◌, map, Some, ◌∙◌, ap, subst, inl, inr}
-use Rattle.std.specs.Prelude.{find, zip, filter, not, Result, Ok, Err}
+use Rattle.std.proofs.Common.{◌≡◌, ℕ, ◌+◌, Bool, true, false, cond, List, [], ◌∷◌, ◌++◌, map, Some, ◌∙◌, ap, subst, inl, inr, arith}
+use Rattle.std.specs.Prelude.{find, zip, filter, not, Result, Ok, Err, OnOk}
 use Rattle.std.specs.List.{list_any, list_all, AllByRecursion}
 use Rattle.ath_sorts.proofs.Bools.{and_parts}
 use Rattle.ath_sorts.specs.declared.sorts.Sym.{Sym}
@@ -13,10 +13,14 @@ use Rattle.ath_sorts.specs.Validity.{IsValid}
 use Rattle.ath_trees.specs.declared.node.Var.{Var as Variable}
 use Rattle.ath_terms.specs.declared.measure.BuildError.{BuildError}
 use Rattle.ath_terms.specs.declared.measure.BuildError.TheVariants.{SortClash, ArgCount, NotBoolean, TooLarge, TooDeep, SortTooLarge, Memory}
+use Rattle.ath_trees.specs.Measure.{terms_size, terms_depth, sent_size, sent_depth, IsSmall}
+use Rattle.ath_terms.specs.Kept.{IsListed}
 use Rattle.ath_trees.specs.Tree.{Term, Terms, var, app, none, more, Sent, atom, equal, negated, joined, bound}
 use Rattle.ath_trees.specs.WellSorted.{is_valid_sort, HasSort, var_has, app_has, HaveSorts, none_has, more_has, IsWellSorted, AreWellSorted}
 use Rattle.ath_trees.specs.Variables.{is_namesake, same_var, with_var, with_vars, with_term, with_terms, with_sent, with_sents}
-use Rattle.ath_terms.specs.Construction.{pair_after, pairs_from, variable_pairs, Measure, IsWithin, MatchSolved, MatchMeasured, MatchRefused}
+use Rattle.ath_terms.specs.Construction.{pair_after, pairs_from, variable_pairs, Measure}
+use Rattle.ath_terms.specs.Steps.{MatchSolved, MatchMeasured}
+use Rattle.ath_terms.proofs.Planned.{IsWithin, MatchRefused}
 use Rattle.ath_trees.proofs.ValidSorts.{valid-var, valid_under, use_valid, symbol_good}
 use Rattle.ath_terms.proofs.UnifierValid.{AreValid}
 
@@ -130,3 +134,12 @@ variable_pairs-valid sig found h = pairs-valid sig [] found tt h
 -- ---- the parts of a measure
 pub measured-is : (m n : Measure) (r : Result (Unit {0}) BuildError) → m ≡ n → MatchMeasured m r → MatchMeasured n r
 measured-is m n r e h = subst (λ (x : Measure). MatchMeasured x r) e h
+
+-- what the limits let through
+pub listed-few : (s : Bool) (a b : ℕ) (ts : Terms) (r : Result (Unit {0}) BuildError) → MatchMeasured (record { small = s; nodes = a; levels = b }) r → a ≡ 1 + terms_size ts → b ≡ 1 + terms_depth ts → OnOk r (IsListed ts)
+listed-few s a b ts (Ok u) h p q = let x = h.1 in let y = h.2 in record { nodes = omega arith; levels = omega arith }
+listed-few s a b ts (Err e) h p q = tt
+
+pub sent-few : (s : Bool) (a b : ℕ) (x : Sent) (r : Result (Unit {0}) BuildError) → MatchMeasured (record { small = s; nodes = a; levels = b }) r → a ≡ sent_size x → b ≡ sent_depth x → OnOk r (IsSmall x)
+sent-few s a b x (Ok u) h p q = let v = h.1 in let w = h.2 in record { nodes = omega arith; levels = omega arith }
+sent-few s a b x (Err e) h p q = tt

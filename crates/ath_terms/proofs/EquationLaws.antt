@@ -1,5 +1,5 @@
 -- Equations: their pairs, and what is built.
-use Rattle.std.proofs.Common.{◌≡◌, ℕ, ◌+◌, max, ◌<◌, ◌&&◌, Bool, true, List, [], ◌∷◌, length, sym, ◌∙◌, subst}
+use Rattle.std.proofs.Common.{◌≡◌, ℕ, ◌+◌, max, ◌<◌, ◌&&◌, Bool, true, List, [], ◌∷◌, length, sym, ◌∙◌, ap, subst}
 use Rattle.std.specs.Prelude.{Result, Ok, Err}
 use Rattle.ath_sorts.specs.declared.sorts.SVar.{SVar}
 use Rattle.ath_sorts.specs.declared.sorts.Sort.{Sort}
@@ -9,13 +9,16 @@ use Rattle.ath_trees.specs.declared.node.SentId.{SentId}
 use Rattle.ath_terms.specs.declared.measure.BuildError.{BuildError}
 use Rattle.ath_trees.specs.Measure.{term_size, term_depth}
 use Rattle.ath_trees.specs.Tree.{equal}
-use Rattle.ath_terms.specs.Trees.{Trees, term_at, sort_at, IsSent}
+use Rattle.ath_terms.specs.Trees.{Trees, term_at, sort_at, Grows, IsTerm, IsSent}
 use Rattle.ath_trees.specs.SortsIn.{has_small_sorts}
 use Rattle.ath_terms.specs.SortsIn.{IsSortedIn}
 use Rattle.ath_trees.specs.Variables.{with_term}
 use Rattle.ath_trees.specs.Under.{term_under, sent_under}
 use Rattle.ath_trees.specs.WellSorted.{is_valid_sort}
-use Rattle.ath_terms.specs.Construction.{variable_pairs, sent_measure, equation_plan, MatchSolved, MatchMeasured, MatchRefused, MatchSent}
+use Rattle.ath_terms.specs.Construction.{variable_pairs, sent_measure, equation_plan, made_equation}
+use Rattle.ath_terms.specs.Steps.{MatchSolved, MatchMeasured}
+use Rattle.ath_terms.specs.Answers.{IsSentBuilt}
+use Rattle.ath_terms.proofs.Planned.{sent_built}
 use Rattle.ath_trees.proofs.UnderLaws.{sort_in-is, size-under, depth-under}
 use Rattle.ath_terms.proofs.UnifierValid.{AreValid, unifier_valid}
 use Rattle.ath_terms.proofs.ConstructionLaws.{measured-is, refused-solve, refused-measure, within-measure, has_sort-valid, term_vars-valid, variable_pairs-valid}
@@ -30,18 +33,18 @@ module _ (sig : Signature) (old : Trees) (s t : ℕ) (sorted : IsSortedIn sig ol
       let q = sort_in-is sig (term_at old.terms t) (sort_at old.sorts t) (sorted.terms t right) in
       are ∙ (λ i. (sym p i, sym q i) ∷ variable_pairs (with_term (with_term [] (term_at old.terms s)) (term_at old.terms t)))
 
-  pub equation-unsolved : (e : BuildError) → MatchSolved pairs (Err e) → MatchRefused (equation_plan sig (term_at old.terms s) (term_at old.terms t)).pairs (λ f. sent_measure sig (sent_under f (equal (term_at old.terms s) (term_at old.terms t)))) e
-  equation-unsolved e h = refused-solve (equation_plan sig (term_at old.terms s) (term_at old.terms t)).pairs (λ f. sent_measure sig (sent_under f (equal (term_at old.terms s) (term_at old.terms t)))) e (subst (λ (ps : List (Sort × Sort)). MatchSolved ps (Err e)) listed h)
+  pub equation-unsolved : (new : Trees) (e : BuildError) → MatchSolved pairs (Err e) → IsSentBuilt new (made_equation sig (term_at old.terms s) (term_at old.terms t)) (Err e)
+  equation-unsolved new e h = sent_built sig new (equation_plan sig (term_at old.terms s) (term_at old.terms t)) (Err e) (refused-solve (equation_plan sig (term_at old.terms s) (term_at old.terms t)).pairs (λ f. sent_measure sig (sent_under f (equal (term_at old.terms s) (term_at old.terms t)))) e (subst (λ (ps : List (Sort × Sort)). MatchSolved ps (Err e)) listed h))
 
   module _ (u : List (SVar × Sort)) (solved : MatchSolved pairs (Ok u)) where
     solved_listed : MatchSolved (equation_plan sig (term_at old.terms s) (term_at old.terms t)).pairs (Ok u)
     solved_listed = subst (λ (ps : List (Sort × Sort)). MatchSolved ps (Ok u)) listed solved
 
-    pub equation-unmeasured : (e : BuildError) → MatchMeasured (sent_measure sig (sent_under (image u) (equal (term_at old.terms s) (term_at old.terms t)))) (Err e) → MatchRefused (equation_plan sig (term_at old.terms s) (term_at old.terms t)).pairs (λ f. sent_measure sig (sent_under f (equal (term_at old.terms s) (term_at old.terms t)))) e
-    equation-unmeasured e h = refused-measure (equation_plan sig (term_at old.terms s) (term_at old.terms t)).pairs (λ f. sent_measure sig (sent_under f (equal (term_at old.terms s) (term_at old.terms t)))) u e solved_listed h
+    pub equation-unmeasured : (new : Trees) (e : BuildError) → MatchMeasured (sent_measure sig (sent_under (image u) (equal (term_at old.terms s) (term_at old.terms t)))) (Err e) → IsSentBuilt new (made_equation sig (term_at old.terms s) (term_at old.terms t)) (Err e)
+    equation-unmeasured new e h = sent_built sig new (equation_plan sig (term_at old.terms s) (term_at old.terms t)) (Err e) (refused-measure (equation_plan sig (term_at old.terms s) (term_at old.terms t)).pairs (λ f. sent_measure sig (sent_under f (equal (term_at old.terms s) (term_at old.terms t)))) u e solved_listed h)
 
-    pub equation-built : (new : Trees) (p : SentId) (v : Unit {0}) → MatchMeasured (sent_measure sig (sent_under (image u) (equal (term_at old.terms s) (term_at old.terms t)))) (Ok v) → IsSent new p.0 (sent_under (image u) (equal (term_at old.terms s) (term_at old.terms t))) → MatchSent sig new (equation_plan sig (term_at old.terms s) (term_at old.terms t)) (Ok p)
-    equation-built new p v h is = (u, (within-measure (equation_plan sig (term_at old.terms s) (term_at old.terms t)).pairs (sent_measure sig (sent_under (image u) (equal (term_at old.terms s) (term_at old.terms t)))) u v solved_listed h, is))
+    pub equation-built : (new : Trees) (p : SentId) (v : Unit {0}) → MatchMeasured (sent_measure sig (sent_under (image u) (equal (term_at old.terms s) (term_at old.terms t)))) (Ok v) → IsSent new p.0 (sent_under (image u) (equal (term_at old.terms s) (term_at old.terms t))) → IsSentBuilt new (made_equation sig (term_at old.terms s) (term_at old.terms t)) (Ok p)
+    equation-built new p v h is = sent_built sig new (equation_plan sig (term_at old.terms s) (term_at old.terms t)) (Ok p) ((u, (within-measure (equation_plan sig (term_at old.terms s) (term_at old.terms t)).pairs (sent_measure sig (sent_under (image u) (equal (term_at old.terms s) (term_at old.terms t)))) u v solved_listed h, is)))
 
     -- the images are valid, and the sides have one sort
     pub equation-valid : (v : SVar) → is_valid_sort sig (image u v) ≡ true
@@ -63,3 +66,10 @@ equation-measured sig old f s t small a b c d r e p q v w h =
     let w' = w ∙ sym (depth-under f (term_at old.terms t)) in
     measured-is (record { small = small; nodes = 1 + a + b; levels = 1 + max c d }) (sent_measure sig (sent_under f (equal (term_at old.terms s) (term_at old.terms t)))) r
     (λ i. record { small = e i; nodes = 1 + p' i + q' i; levels = 1 + max (v' i) (w' i) }) h
+
+-- the sides under a substitution, in a store that grows
+pub sides-under : (f : SVar → Sort) (old mid new : Trees) (s t l r : ℕ) → t < length old.terms → Grows old mid → Grows mid new → IsTerm mid l (term_under f (term_at old.terms s)) → IsTerm new r (term_under f (term_at mid.terms t)) → equal (term_at new.terms l) (term_at new.terms r) ≡ sent_under f (equal (term_at old.terms s) (term_at old.terms t))
+sides-under f old mid new s t l r below g k h w =
+    let x = k.same_terms l h.0 ∙ h.1 in
+    let y = w.1 ∙ ap (term_under f) (g.same_terms t below) in
+    λ i. equal (x i) (y i)

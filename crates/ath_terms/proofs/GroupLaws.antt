@@ -8,7 +8,7 @@ use Rattle.ath_sorts.specs.declared.sorts.Sort.{Sort}
 use Rattle.ath_trees.specs.Tree.{Sent, joined}
 use Rattle.ath_terms.specs.Trees.{Trees, sent_at, Grows, IsSent}
 use Rattle.ath_trees.specs.Under.{sent_under}
-use Rattle.ath_trees.specs.Measure.{sent_size, IsSmall}
+use Rattle.ath_trees.specs.Measure.{sent_size}
 use Rattle.ath_terms.specs.Construction.{grouped}
 use Rattle.ath_terms.proofs.Measures.{total, total-next, total-all}
 
@@ -44,16 +44,6 @@ module _ (ss : List Sent) (ids : List SentId) where
   abbrev pub nodes_to : ℕ → ℕ
   nodes_to i = total (λ (j : SentId). 1 + sent_size (sent_at ss j.0)) (take i ids)
 
-  pub nodes-bound : (i : ℕ) → i ≤ length ids → All (λ j. IsSmall (sent_at ss j.0)) ids → nodes_to i ≤ 100001 * i
-  nodes-bound zero h all = omega arith
-  nodes-bound (suc i) h all =
-      let e = total-next (λ (j : SentId). 1 + sent_size (sent_at ss j.0)) ids i (record { 0 = 0 }) (omega arith) in
-      let b = nodes-bound i (omega arith) all in
-      let s = (all i (record { 0 = 0 }) (omega arith)).nodes in
-      let k : i + 1 ≡ suc i = omega arith in
-      let e' = rw k at e in
-      omega arith
-
   pub nodes-next : (i : ℕ) (d : SentId) (n : ℕ) → i < length ids → n ≡ nodes_to i → n + (1 + sent_size (sent_at ss (get_or ids i d).0)) ≡ nodes_to (i + 1)
   nodes-next i d n h e = let t = total-next (λ (j : SentId). 1 + sent_size (sent_at ss j.0)) ids i d h in omega arith
 
@@ -64,9 +54,12 @@ module _ (ss : List Sent) (ids : List SentId) where
       omega arith
 
 -- ---- one sentence before
-pub group-built : (old s mid new : Trees) (f : SVar → Sort) (c : Binary) (ids : List SentId) (i j : ℕ) (d : SentId) (left sent made : ℕ) → All (λ k. k.0 < length old.sents) ids → i < length ids → j + 1 ≡ i → Grows old s → Grows s mid → IsSent s sent (sent_under f (group_from old.sents c ids i)) → IsSent mid left (sent_under f (sent_at s.sents (get_or ids j d).0)) → IsSent new made (joined c (sent_at mid.sents left) (sent_at mid.sents sent)) → IsSent new made (sent_under f (group_from old.sents c ids j))
-group-built old s mid new f c ids i j d left sent made all h k g g2 a b r =
+pub group-joined : (old s mid : Trees) (f : SVar → Sort) (c : Binary) (ids : List SentId) (i j : ℕ) (d : SentId) (left sent : ℕ) → All (λ k. k.0 < length old.sents) ids → i < length ids → j + 1 ≡ i → Grows old s → Grows s mid → IsSent s sent (sent_under f (group_from old.sents c ids i)) → IsSent mid left (sent_under f (sent_at s.sents (get_or ids j d).0)) → joined c (sent_at mid.sents left) (sent_at mid.sents sent) ≡ sent_under f (group_from old.sents c ids j)
+group-joined old s mid f c ids i j d left sent all h k g g2 a b =
     let p : sent_at mid.sents left ≡ sent_under f (sent_at old.sents (get_or ids j d).0) = b.1 ∙ ap (sent_under f) (g.same_sents (get_or ids j d).0 (all j d (omega arith))) in
     let q : sent_at mid.sents sent ≡ sent_under f (group_from old.sents c ids (j + 1)) = g2.same_sents sent a.0 ∙ a.1 ∙ ap (λ (n : ℕ). sent_under f (group_from old.sents c ids n)) (sym k) in
     let e = group-before old.sents c ids j d (omega arith) in
-    (r.0, r.1 ∙ (λ x. joined c (p x) (q x)) ∙ ap (sent_under f) (sym e))
+    (λ x. joined c (p x) (q x)) ∙ ap (sent_under f) (sym e)
+
+pub group-built : (old s mid new : Trees) (f : SVar → Sort) (c : Binary) (ids : List SentId) (i j : ℕ) (d : SentId) (left sent made : ℕ) → All (λ k. k.0 < length old.sents) ids → i < length ids → j + 1 ≡ i → Grows old s → Grows s mid → IsSent s sent (sent_under f (group_from old.sents c ids i)) → IsSent mid left (sent_under f (sent_at s.sents (get_or ids j d).0)) → IsSent new made (joined c (sent_at mid.sents left) (sent_at mid.sents sent)) → IsSent new made (sent_under f (group_from old.sents c ids j))
+group-built old s mid new f c ids i j d left sent made all h k g g2 a b r = (r.0, r.1 ∙ group-joined old s mid f c ids i j d left sent all h k g g2 a b)

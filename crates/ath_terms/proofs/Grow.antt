@@ -3,7 +3,8 @@ use Rattle.std.proofs.Common.{◌≡◌, ℕ, [], ◌∷◌, ◌++◌, length, r
 use Rattle.ath_sorts.specs.declared.sorts.Sort.{Sort}
 use Rattle.ath_sorts.specs.Signature.{boolean}
 use Rattle.ath_trees.specs.Tree.{Term, Sent, atom}
-use Rattle.ath_terms.specs.Trees.{Trees, blank, sort_at, Grows, IsTerm, IsTermOf, IsSent}
+use Rattle.ath_terms.specs.Blank.{blank}
+use Rattle.ath_terms.specs.Trees.{Trees, sort_at, Grows, IsTerm, IsTermOf, IsSent}
 use Rattle.ath_terms.proofs.BuiltLaws.{get_or-append-left, get_or-append-here}
 
 pub grows-none : (s : Trees) → Grows s s

@@ -11,6 +11,7 @@ pub mod WithinLaws
 pub mod StepLaws
 pub mod SortedLaws
 pub mod UnifierValid
+pub mod Planned
 pub mod ConstructionLaws
 pub mod EquationLaws
 pub mod TermLaws
@@ -19,5 +20,7 @@ pub mod ApplicationLaws
 pub mod SentLaws
 pub mod SentWithin
 pub mod GroupLaws
+pub mod KeptLaws
+pub mod KeepingLaws
 pub mod ConnectiveLaws
 mod Rows

@@ -10,10 +10,10 @@ use Rattle.ath_sorts.specs.declared.sorts.Sort.{Sort, Var}
 use Rattle.ath_sorts.specs.Signature.{Signature}
 use Rattle.ath_trees.specs.declared.node.TermId.{TermId}
 use Rattle.ath_trees.specs.declared.node.Var.{Var as Variable}
-use Rattle.ath_trees.specs.Tree.{Term, atom, listed}
+use Rattle.ath_trees.specs.Tree.{Term, listed}
 use Rattle.ath_terms.specs.Trees.{Trees, term_at, sort_at, Grows, IsTerm}
 use Rattle.ath_terms.specs.Lists.{AreTerms}
-use Rattle.ath_trees.specs.Measure.{term_size, terms_size, term_depth, terms_depth, IsSmall}
+use Rattle.ath_trees.specs.Measure.{term_size, terms_size, term_depth, terms_depth}
 use Rattle.ath_trees.specs.SortsIn.{have_small_sorts}
 use Rattle.ath_trees.specs.Under.{term_under, terms_under}
 use Rattle.ath_trees.specs.Variables.{with_terms}
@@ -115,16 +115,6 @@ list_within sig f ts args b e = sym (within-listed sig f ts args ∙ e)
 module _ (ts : List Term) (args : List TermId) where
   abbrev pub sizes_to : ℕ → ℕ
   sizes_to i = total (λ (j : TermId). term_size (term_at ts j.0)) (take i args)
-
-  pub sizes-bound : (i : ℕ) → i ≤ length args → All (λ j. IsSmall (atom (term_at ts j.0))) args → sizes_to i ≤ 100000 * i
-  sizes-bound zero h all = omega arith
-  sizes-bound (suc i) h all =
-      let e = total-next (λ (j : TermId). term_size (term_at ts j.0)) args i (record { 0 = 0 }) (omega arith) in
-      let b = sizes-bound i (omega arith) all in
-      let s = (all i (record { 0 = 0 }) (omega arith)).nodes in
-      let k : i + 1 ≡ suc i = omega arith in
-      let e' = rw k at e in
-      omega arith
 
   pub sizes-next : (i : ℕ) (d : TermId) (n : ℕ) → i < length args → n ≡ sizes_to i → n + term_size (term_at ts (get_or args i d).0) ≡ sizes_to (i + 1)
   sizes-next i d n h e = let t = total-next (λ (j : TermId). term_size (term_at ts j.0)) args i d h in omega arith

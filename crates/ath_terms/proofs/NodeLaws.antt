@@ -6,7 +6,8 @@ use Rattle.ath_terms.specs.declared.node.TermNode.TheVariants.{Var, App}
 use Rattle.ath_terms.specs.declared.node.SentNode.{SentNode}
 use Rattle.ath_terms.specs.declared.node.SentNode.TheVariants as node
 use Rattle.ath_trees.specs.Tree.{Term, app, listed, Sent, atom, bound}
-use Rattle.ath_terms.specs.Trees.{blank, term_at, sent_at}
+use Rattle.ath_terms.specs.Blank.{blank}
+use Rattle.ath_terms.specs.Trees.{term_at, sent_at}
 use Rattle.ath_terms.specs.Nodes.{term_tree, conn_tree, sent_tree, IsTermBelow, IsSentBelow}
 use Rattle.ath_terms.proofs.BuiltLaws.{Respects}
 

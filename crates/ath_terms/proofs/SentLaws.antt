@@ -4,9 +4,7 @@ use Rattle.std.specs.List.{All}
 use Rattle.std.proofs.lemmas.List.{take_all}
 use Rattle.ath_sorts.specs.declared.sorts.SVar.{SVar}
 use Rattle.ath_sorts.specs.declared.sorts.Sort.{Sort}
-use Rattle.ath_sorts.specs.Signature.{Signature, boolean}
-use Rattle.ath_sorts.specs.Sorts.{apply_to}
-use Rattle.ath_sorts.proofs.SortLaws.{apply-con}
+use Rattle.ath_sorts.specs.Signature.{Signature}
 use Rattle.ath_trees.specs.declared.node.Var.{Var}
 use Rattle.ath_trees.specs.declared.node.Conn.{Conn}
 use Rattle.ath_trees.specs.declared.node.Quant.{Quant}
@@ -15,17 +13,17 @@ use Rattle.ath_trees.specs.declared.node.SentId.{SentId}
 use Rattle.ath_terms.specs.declared.node.SentNode.{SentNode}
 use Rattle.ath_terms.specs.declared.node.SentNode.TheVariants as node
 use Rattle.ath_trees.specs.Tree.{Sent, atom, equal, bound}
-use Rattle.ath_terms.specs.Trees.{Trees, term_at, sort_at, sent_at, Grows, IsSent}
+use Rattle.ath_terms.specs.Trees.{Trees, term_at, sent_at, Grows, IsTerm, IsSent}
 use Rattle.ath_terms.specs.Lists.{AreSents}
 use Rattle.ath_terms.specs.Nodes.{sent_tree, conn_tree, arity, IsSentBelow}
 use Rattle.ath_terms.specs.SortsIn.{IsSortedIn}
-use Rattle.ath_trees.specs.Under.{var_under, sent_under}
+use Rattle.ath_trees.specs.Under.{var_under, term_under, sent_under}
 use Rattle.ath_terms.specs.Under.{sent_node_under}
 use Rattle.ath_trees.specs.Variables.{with_sents}
 use Rattle.ath_trees.specs.WellSorted.{is_valid_sort, IsWellSorted}
 use Rattle.ath_terms.proofs.Grow.{sent-kept}
 use Rattle.ath_terms.proofs.ConnParts.{under_of_conn}
-use Rattle.ath_trees.proofs.UnderLaws.{sort_in-is, well_sorted-under}
+use Rattle.ath_trees.proofs.UnderLaws.{well_sorted-under}
 
 abbrev pub sent_images_of : Trees → (SVar → Sort) → List SentId → List Sent
 sent_images_of s f ids = map (λ j. sent_under f (sent_at s.sents j.0)) ids
@@ -126,22 +124,15 @@ equation_node f old (node.Atom x) m p a s t e is tree b = absurd (cc)
 equation_node f old (node.Conn c ids) m p a s t e is tree b = absurd (cc)
 equation_node f old (node.Quant l w r) m p a s t e is tree b = absurd (cc)
 
--- the sorts of an atom's and of an equation's terms
-pub atom_sort : (sig : Signature) (old : Trees) (f : SVar → Sort) (p : ℕ) (t : TermId) → IsSortedIn sig old → p < length old.sents → IsAtom f old p (length old.terms) t → apply_to f (sort_at old.sorts t.0) ≡ boolean
-atom_sort sig old f p t h l is =
-    let w = subst (IsWellSorted sig) is.tree (h.sents p l) in
-    let a = sort_in-is sig (term_at old.terms t.0) (sort_at old.sorts t.0) (h.terms t.0 is.below) in
-    let b = sort_in-is sig (term_at old.terms t.0) boolean w in
-    ap (apply_to f) (sym a ∙ b) ∙ apply-con f (record { 0 = 0 }) []
+-- the nodes of their parts under the substitution
+pub atom-tree : (f : SVar → Sort) (old new : Trees) (p a : ℕ) (t r : TermId) → IsAtom f old p a t → IsTerm new r.0 (term_under f (term_at old.terms t.0)) → sent_tree new.terms new.sents (node.Atom r) ≡ sent_under f (sent_at old.sents p)
+atom-tree f old new p a t r is h = ap atom h.1 ∙ ap (sent_under f) (sym is.tree)
 
-pub equation_sorts : (sig : Signature) (old : Trees) (f : SVar → Sort) (p : ℕ) (s t : TermId) → IsSortedIn sig old → p < length old.sents → IsEquation f old p (length old.terms) s t → apply_to f (sort_at old.sorts s.0) ≡ apply_to f (sort_at old.sorts t.0)
-equation_sorts sig old f p s t h l is =
-    let w = subst (IsWellSorted sig) is.tree (h.sents p l) in
-    let a = sort_in-is sig (term_at old.terms s.0) (sort_at old.sorts s.0) (h.terms s.0 is.left) in
-    let b = sort_in-is sig (term_at old.terms s.0) w.0 w.1.0 in
-    let c = sort_in-is sig (term_at old.terms t.0) (sort_at old.sorts t.0) (h.terms t.0 is.right) in
-    let d = sort_in-is sig (term_at old.terms t.0) w.0 w.1.1 in
-    ap (apply_to f) (sym a ∙ b ∙ sym d ∙ c)
+pub equation-tree : (f : SVar → Sort) (old mid new : Trees) (p : ℕ) (s t l r : TermId) → IsEquation f old p (length old.terms) s t → Grows old mid → Grows mid new → IsTerm mid l.0 (term_under f (term_at old.terms s.0)) → IsTerm new r.0 (term_under f (term_at mid.terms t.0)) → sent_tree new.terms new.sents (node.Eq l r) ≡ sent_under f (sent_at old.sents p)
+equation-tree f old mid new p s t l r is g k h w =
+    let x = k.same_terms l.0 h.0 ∙ h.1 in
+    let y = w.1 ∙ ap (term_under f) (g.same_terms t.0 is.right) in
+    (λ i. equal (x i) (y i)) ∙ ap (sent_under f) (sym is.tree)
 
 -- the new node is well-sorted
 pub sent_has : (sig : Signature) (old : Trees) (f : SVar → Sort) (p : ℕ) (x : Sent) → IsSortedIn sig old → ((v : SVar) → is_valid_sort sig (f v) ≡ true) → p < length old.sents → x ≡ sent_under f (sent_at old.sents p) → IsWellSorted sig x

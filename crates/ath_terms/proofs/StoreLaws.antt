@@ -1,13 +1,16 @@
 -- The view of a store, one node later, and one node's tree.
-use Rattle.std.proofs.Common.{◌≡◌, ℕ, zero, suc, ◌+◌, ◌<◌, ◌≤◌, List, [], ◌∷◌, ◌++◌, length, map, get_or, refl, sym, ◌∙◌, ap, arith, length-append}
+use Rattle.std.proofs.Common.{◌≡◌, ℕ, zero, suc, ◌+◌, ◌<◌, ◌≤◌, List, [], ◌∷◌, ◌++◌, length, map, get_or, refl, sym, ◌∙◌, ap, subst, arith, length-append}
 use Rattle.ath_sorts.specs.declared.sorts.Sort.{Sort}
 use Rattle.ath_sorts.specs.Signature.{boolean}
-use Rattle.ath_terms.specs.declared.store.SortedNode.{SortedNode}
+use Rattle.ath_terms.specs.declared.store.KeptTerm.{KeptTerm}
+use Rattle.ath_terms.specs.declared.store.KeptSent.{KeptSent}
+use Rattle.ath_terms.specs.Kept.{Extent, IsTermKept, IsSentKept, AreEach, AreKept}
 use Rattle.ath_terms.specs.declared.node.TermNode.{TermNode}
 use Rattle.ath_terms.specs.declared.node.SentNode.{SentNode}
 use Rattle.ath_terms.specs.declared.node.SentNode.TheVariants as node
 use Rattle.ath_trees.specs.Tree.{Term, Sent, atom, equal}
-use Rattle.ath_terms.specs.Trees.{Trees, blank, term_at, sort_at, sent_at}
+use Rattle.ath_terms.specs.Blank.{blank}
+use Rattle.ath_terms.specs.Trees.{Trees, term_at, sort_at, sent_at}
 use Rattle.ath_terms.specs.Built.{built, IsOrdered}
 use Rattle.ath_terms.specs.Nodes.{term_tree, sent_tree, term_trees, sent_trees, IsTermBelow, IsSentBelow}
 use Rattle.ath_terms.proofs.BuiltLaws.{get_or-append-left, built-push, built-length, built-at, ordered-push, ordered-at}
@@ -90,11 +93,20 @@ pub sent-below : (m : ℕ) (ms : List SentNode) (k : ℕ) (d : SentNode) → IsO
 sent-below m ms k d o h = let e : 0 + k ≡ k = omega arith in rw e at (ordered-at (IsSentBelow m) 0 ms k d o h)
 
 -- ---- over what the view is
-abbrev pub nodes_of : List SortedNode → List TermNode
+abbrev pub nodes_of : List KeptTerm → List TermNode
 nodes_of es = map (λ e. e.node) es
 
-abbrev pub sorts_of : List SortedNode → List Sort
+abbrev pub sorts_of : List KeptTerm → List Sort
 sorts_of es = map (λ e. e.sort) es
+
+abbrev pub extents_of : List KeptTerm → List Extent
+extents_of es = map (λ e. record { nodes = e.nodes; levels = e.levels }) es
+
+abbrev pub sent_nodes_of : List KeptSent → List SentNode
+sent_nodes_of ms = map (λ e. e.node) ms
+
+abbrev pub sent_extents_of : List KeptSent → List Extent
+sent_extents_of ms = map (λ e. record { nodes = e.nodes; levels = e.levels }) ms
 
 map-push : {A B : Type 0} (f : A → B) (xs : List A) (x : A) → map f (xs ++ x ∷ []) ≡ map f xs ++ f x ∷ []
 map-push f [] x = refl
@@ -109,65 +121,135 @@ map-get f [] k d b h = absurd (omega arith)
 map-get f (x ∷ xs) zero d b h = refl
 map-get f (x ∷ xs) (suc k) d b h = map-get f xs k d b (omega arith)
 
-abbrev pub whole_view : List SortedNode → List SentNode → Trees
-whole_view es ms = record { terms = term_trees (nodes_of es); sorts = sorts_of es; sents = sent_trees (term_trees (nodes_of es)) ms }
+each-push : {A B : Type 0} (P : A → B → Type 0) (xs : List A) (ys : List B) (x : A) (y : B) → AreEach P xs ys → P x y → AreEach P (xs ++ x ∷ []) (ys ++ y ∷ [])
+each-push P [] [] x y h p = (p, tt)
+each-push P (a ∷ xs) (b ∷ ys) x y h p = (h.0, each-push P xs ys x y h.1 p)
+each-push P [] (b ∷ ys) x y h p = absurd h
+each-push P (a ∷ xs) [] x y h p = absurd h
 
-module _ (es : List SortedNode) (ms : List SentNode) (v : Trees) (is : whole_view es ms ≡ v) (w : IsWell (nodes_of es) ms) where
-  pub then-add_term : (n : TermNode) (r : Sort) (items : List SortedNode) → items ≡ es ++ record { node = n; sort = r } ∷ [] → whole_view items ms ≡ record { terms = v.terms ++ term_tree v.terms n ∷ []; sorts = v.sorts ++ r ∷ []; sents = v.sents }
-  then-add_term n r items e =
-      let a = map-push (λ (e : SortedNode). e.node) es (record { node = n; sort = r }) in
-      let b = map-push (λ (e : SortedNode). e.sort) es (record { node = n; sort = r }) in
-      let q = view-add_term (nodes_of es) ms n w in
-      rw (e, ← is, a, b) (λ i. record { terms = (q i).terms; sorts = sorts_of es ++ r ∷ []; sents = (q i).sents })
+each-at : {A B : Type 0} (P : A → B → Type 0) (xs : List A) (ys : List B) (k : ℕ) (a : A) (b : B) → AreEach P xs ys → k < length xs → P (get_or xs k a) (get_or ys k b)
+each-at P [] ys k a b h l = absurd (omega arith)
+each-at P (x ∷ xs) (y ∷ ys) zero a b h l = h.0
+each-at P (x ∷ xs) (y ∷ ys) (suc k) a b h l = each-at P xs ys k a b h.1 (omega arith)
+each-at P (x ∷ xs) [] k a b h l = absurd h
 
-  pub well-then-term : (n : TermNode) (r : Sort) (items : List SortedNode) → items ≡ es ++ record { node = n; sort = r } ∷ [] → IsTermBelow (length v.terms) n → IsWell (nodes_of items) ms
-  well-then-term n r items e b = rw (e, map-push (λ (e : SortedNode). e.node) es (record { node = n; sort = r })) (well-add_term (nodes_of es) ms n w (rw (← is) at b))
+abbrev pub whole_view : List KeptTerm → List KeptSent → Trees
+whole_view es ms = record { terms = term_trees (nodes_of es); sorts = sorts_of es; sents = sent_trees (term_trees (nodes_of es)) (sent_nodes_of ms) }
 
-  pub then-add_sent : (n : SentNode) (items : List SentNode) → items ≡ ms ++ n ∷ [] → whole_view es items ≡ record { terms = v.terms; sorts = v.sorts; sents = v.sents ++ sent_tree v.terms v.sents n ∷ [] }
-  then-add_sent n items e = let q = view-add_sent (nodes_of es) ms n in rw (e, ← is) (λ i. record { terms = term_trees (nodes_of es); sorts = sorts_of es; sents = (q i).sents })
+abbrev pub IsWhole : List KeptTerm → List KeptSent → Type 0
+IsWhole es ms = IsWell (nodes_of es) (sent_nodes_of ms) × AreKept (term_trees (nodes_of es)) (extents_of es) (sent_trees (term_trees (nodes_of es)) (sent_nodes_of ms)) (sent_extents_of ms)
 
-  pub well-then-sent : (n : SentNode) (items : List SentNode) → items ≡ ms ++ n ∷ [] → IsSentBelow (length v.terms) (length v.sents) n → IsWell (nodes_of es) items
-  well-then-sent n items e b = rw e (well-add_sent (nodes_of es) ms n w (rw (← is) at b))
+module _ (es : List KeptTerm) (ms : List KeptSent) (v : Trees) (is : whole_view es ms ≡ v) (w : IsWhole es ms) where
+  kept_terms : AreEach IsTermKept v.terms (extents_of es)
+  kept_terms = subst (λ (t : Trees). AreEach IsTermKept t.terms (extents_of es)) is w.1.terms
+
+  kept_sents : AreEach IsSentKept v.sents (sent_extents_of ms)
+  kept_sents = subst (λ (t : Trees). AreEach IsSentKept t.sents (sent_extents_of ms)) is w.1.sents
+
+  module _ (n : TermNode) (r : Sort) (a b : ℕ) (items : List KeptTerm) (e : items ≡ es ++ record { node = n; sort = r; nodes = a; levels = b } ∷ []) where
+    pub then-add_term : whole_view items ms ≡ record { terms = v.terms ++ term_tree v.terms n ∷ []; sorts = v.sorts ++ r ∷ []; sents = v.sents }
+    then-add_term =
+        let x = map-push (λ (e : KeptTerm). e.node) es (record { node = n; sort = r; nodes = a; levels = b }) in
+        let y = map-push (λ (e : KeptTerm). e.sort) es (record { node = n; sort = r; nodes = a; levels = b }) in
+        let q = view-add_term (nodes_of es) (sent_nodes_of ms) n w.0 in
+        rw (e, ← is, x, y) (λ i. record { terms = (q i).terms; sorts = sorts_of es ++ r ∷ []; sents = (q i).sents })
+
+    well-then-term : IsTermBelow (length v.terms) n → IsWell (nodes_of items) (sent_nodes_of ms)
+    well-then-term below = rw (e, map-push (λ (e : KeptTerm). e.node) es (record { node = n; sort = r; nodes = a; levels = b })) (well-add_term (nodes_of es) (sent_nodes_of ms) n w.0 (rw (← is) at below))
+
+    pub whole-then-term : IsTermBelow (length v.terms) n → IsTermKept (term_tree v.terms n) (record { nodes = a; levels = b }) → IsWhole items ms
+    whole-then-term below kept =
+        let q = sym then-add_term in
+        let x = ap extents_of e ∙ map-push (λ (e : KeptTerm). record { nodes = e.nodes; levels = e.levels }) es (record { node = n; sort = r; nodes = a; levels = b }) in
+        let p = each-push IsTermKept v.terms (extents_of es) (term_tree v.terms n) (record { nodes = a; levels = b }) kept_terms kept in
+        let p' = subst (AreEach IsTermKept (v.terms ++ term_tree v.terms n ∷ [])) (sym x) p in (
+          well-then-term below,
+          record {
+            terms = subst (λ (t : Trees). AreEach IsTermKept t.terms (extents_of items)) q p';
+            sents = subst (λ (t : Trees). AreEach IsSentKept t.sents (sent_extents_of ms)) q kept_sents;
+          },
+        )
+
+  module _ (n : SentNode) (a b : ℕ) (items : List KeptSent) (e : items ≡ ms ++ record { node = n; nodes = a; levels = b } ∷ []) where
+    pub then-add_sent : whole_view es items ≡ record { terms = v.terms; sorts = v.sorts; sents = v.sents ++ sent_tree v.terms v.sents n ∷ [] }
+    then-add_sent =
+        let x = map-push (λ (e : KeptSent). e.node) ms (record { node = n; nodes = a; levels = b }) in
+        let q = view-add_sent (nodes_of es) (sent_nodes_of ms) n in
+        rw (e, ← is, x) (λ i. record { terms = term_trees (nodes_of es); sorts = sorts_of es; sents = (q i).sents })
+
+    well-then-sent : IsSentBelow (length v.terms) (length v.sents) n → IsWell (nodes_of es) (sent_nodes_of items)
+    well-then-sent below = rw (e, map-push (λ (e : KeptSent). e.node) ms (record { node = n; nodes = a; levels = b })) (well-add_sent (nodes_of es) (sent_nodes_of ms) n w.0 (rw (← is) at below))
+
+    pub whole-then-sent : IsSentBelow (length v.terms) (length v.sents) n → IsSentKept (sent_tree v.terms v.sents n) (record { nodes = a; levels = b }) → IsWhole es items
+    whole-then-sent below kept =
+        let q = sym then-add_sent in
+        let x = ap sent_extents_of e ∙ map-push (λ (e : KeptSent). record { nodes = e.nodes; levels = e.levels }) ms (record { node = n; nodes = a; levels = b }) in
+        let p = each-push IsSentKept v.sents (sent_extents_of ms) (sent_tree v.terms v.sents n) (record { nodes = a; levels = b }) kept_sents kept in
+        let p' = subst (AreEach IsSentKept (v.sents ++ sent_tree v.terms v.sents n ∷ [])) (sym x) p in (
+          well-then-sent below,
+          record {
+            terms = subst (λ (t : Trees). AreEach IsTermKept t.terms (extents_of es)) q kept_terms;
+            sents = subst (λ (t : Trees). AreEach IsSentKept t.sents (sent_extents_of items)) q p';
+          },
+        )
 
   pub terms-count : length v.terms ≡ length es
-  terms-count = rw (← is) (terms-length (nodes_of es) ∙ map-count (λ (e : SortedNode). e.node) es)
+  terms-count = rw (← is) (terms-length (nodes_of es) ∙ map-count (λ (e : KeptTerm). e.node) es)
 
   pub sorts-count : length v.sorts ≡ length v.terms
   sorts-count =
       let e = terms-count in
-      let m = map-count (λ (e : SortedNode). e.sort) es in
+      let m = map-count (λ (e : KeptTerm). e.sort) es in
       let p : length (sorts_of es) ≡ length v.sorts = ap (λ (t : Trees). length t.sorts) is in
       omega arith
 
   pub sents-count : length v.sents ≡ length ms
-  sents-count = rw (← is) (sents-length (term_trees (nodes_of es)) ms)
+  sents-count = rw (← is) (sents-length (term_trees (nodes_of es)) (sent_nodes_of ms) ∙ map-count (λ (e : KeptSent). e.node) ms)
 
-  pub term-is : (k : ℕ) (d : SortedNode) → k < length v.terms → term_tree v.terms (get_or es k d).node ≡ term_at v.terms k
+  pub term-is : (k : ℕ) (d : KeptTerm) → k < length v.terms → term_tree v.terms (get_or es k d).node ≡ term_at v.terms k
   term-is k d h =
       let e = terms-count in
-      let m = map-count (λ (e : SortedNode). e.node) es in
-      let g = map-get (λ (e : SortedNode). e.node) es k d d.node (omega arith) in
-      rw (← is) (rw g at (term-node (nodes_of es) k d.node w.0 (omega arith)))
+      let m = map-count (λ (e : KeptTerm). e.node) es in
+      let g = map-get (λ (e : KeptTerm). e.node) es k d d.node (omega arith) in
+      rw (← is) (rw g at (term-node (nodes_of es) k d.node w.0.0 (omega arith)))
 
-  pub sort-is : (k : ℕ) (d : SortedNode) → k < length v.terms → (get_or es k d).sort ≡ sort_at v.sorts k
+  pub sort-is : (k : ℕ) (d : KeptTerm) → k < length v.terms → (get_or es k d).sort ≡ sort_at v.sorts k
   sort-is k d h =
       let e = terms-count in
-      rw (← is) (sym (map-get (λ (e : SortedNode). e.sort) es k d boolean (omega arith)))
+      rw (← is) (sym (map-get (λ (e : KeptTerm). e.sort) es k d boolean (omega arith)))
 
-  pub sent-is : (k : ℕ) (d : SentNode) → k < length v.sents → sent_tree v.terms v.sents (get_or ms k d) ≡ sent_at v.sents k
-  sent-is k d h = let e = sents-count in rw (← is) (sent-node (term_trees (nodes_of es)) (length (nodes_of es)) ms k d w.1 (omega arith))
+  pub sent-is : (k : ℕ) (d : KeptSent) → k < length v.sents → sent_tree v.terms v.sents (get_or ms k d).node ≡ sent_at v.sents k
+  sent-is k d h =
+      let e = sents-count in
+      let m = map-count (λ (e : KeptSent). e.node) ms in
+      let g = map-get (λ (e : KeptSent). e.node) ms k d d.node (omega arith) in
+      rw (← is) (rw g at (sent-node (term_trees (nodes_of es)) (length (nodes_of es)) (sent_nodes_of ms) k d.node w.0.1 (omega arith)))
 
-  pub term-parts : (k : ℕ) (d : SortedNode) → k < length v.terms → IsTermBelow k (get_or es k d).node
+  pub term-parts : (k : ℕ) (d : KeptTerm) → k < length v.terms → IsTermBelow k (get_or es k d).node
   term-parts k d h =
       let e = terms-count in
-      let m = map-count (λ (e : SortedNode). e.node) es in
-      let g = map-get (λ (e : SortedNode). e.node) es k d d.node (omega arith) in
-      rw g at (term-below (nodes_of es) k d.node w.0 (omega arith))
+      let m = map-count (λ (e : KeptTerm). e.node) es in
+      let g = map-get (λ (e : KeptTerm). e.node) es k d d.node (omega arith) in
+      rw g at (term-below (nodes_of es) k d.node w.0.0 (omega arith))
 
-  pub sent-parts : (k : ℕ) (d : SentNode) → k < length v.sents → IsSentBelow (length v.terms) k (get_or ms k d)
+  pub sent-parts : (k : ℕ) (d : KeptSent) → k < length v.sents → IsSentBelow (length v.terms) k (get_or ms k d).node
   sent-parts k d h =
       let e = sents-count in
       let t = terms-count in
-      let m = map-count (λ (e : SortedNode). e.node) es in
+      let m = map-count (λ (e : KeptTerm). e.node) es in
+      let m' = map-count (λ (e : KeptSent). e.node) ms in
+      let g = map-get (λ (e : KeptSent). e.node) ms k d d.node (omega arith) in
       let l : length (nodes_of es) ≡ length v.terms = omega arith in
-      rw l at (sent-below (length (nodes_of es)) ms k d w.1 (omega arith))
+      rw (l, g) at (sent-below (length (nodes_of es)) (sent_nodes_of ms) k d.node w.0.1 (omega arith))
+
+  pub term-kept : (k : ℕ) (d : KeptTerm) → k < length v.terms → IsTermKept (term_at v.terms k) (record { nodes = (get_or es k d).nodes; levels = (get_or es k d).levels })
+  term-kept k d h =
+      let e = terms-count in
+      let g = map-get {B = Extent} (λ (e : KeptTerm). record { nodes = e.nodes; levels = e.levels }) es k d (record { nodes = d.nodes; levels = d.levels }) (omega arith) in
+      rw g at (each-at IsTermKept v.terms (extents_of es) k blank (record { nodes = d.nodes; levels = d.levels }) kept_terms h)
+
+  pub sent-kept : (k : ℕ) (d : KeptSent) → k < length v.sents → IsSentKept (sent_at v.sents k) (record { nodes = (get_or ms k d).nodes; levels = (get_or ms k d).levels })
+  sent-kept k d h =
+      let e = sents-count in
+      let g = map-get {B = Extent} (λ (e : KeptSent). record { nodes = e.nodes; levels = e.levels }) ms k d (record { nodes = d.nodes; levels = d.levels }) (omega arith) in
+      rw g at (each-at IsSentKept v.sents (sent_extents_of ms) k (atom blank) (record { nodes = d.nodes; levels = d.levels }) kept_sents h)

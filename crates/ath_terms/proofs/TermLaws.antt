@@ -12,13 +12,16 @@ use Rattle.ath_terms.specs.declared.measure.BuildError.{BuildError}
 use Rattle.ath_terms.specs.declared.measure.BuildError.TheVariants.{SortClash, ArgCount, NotBoolean, TooLarge, TooDeep, SortTooLarge, Memory}
 use Rattle.ath_trees.specs.Measure.{term_size, term_depth}
 use Rattle.ath_trees.specs.Tree.{Term, atom}
-use Rattle.ath_terms.specs.Trees.{Trees, term_at, sort_at, IsTermOf, IsSent}
+use Rattle.ath_terms.specs.Trees.{Trees, term_at, sort_at, Grows, IsTermOf, IsSent}
 use Rattle.ath_trees.specs.SortsIn.{sort_in, has_small_sorts}
 use Rattle.ath_terms.specs.SortsIn.{IsSortedIn}
 use Rattle.ath_trees.specs.Variables.{with_term}
 use Rattle.ath_trees.specs.Under.{term_under}
 use Rattle.ath_trees.specs.WellSorted.{has_arity, is_valid_sort}
-use Rattle.ath_terms.specs.Construction.{variable_pairs, term_measure, ascription_plan, atom_plan, MatchSolved, MatchBoolean, MatchMeasured, MatchRefused, MatchTerm, MatchAtom}
+use Rattle.ath_terms.specs.Construction.{variable_pairs, term_measure, ascription_plan, atom_plan, made_ascription, made_atom}
+use Rattle.ath_terms.specs.Answers.{IsTermBuilt, IsSentBuilt}
+use Rattle.ath_terms.specs.Steps.{MatchSolved, MatchBoolean, MatchMeasured}
+use Rattle.ath_terms.proofs.Planned.{MatchAtom, term_built, atom_built}
 use Rattle.ath_trees.proofs.UnderLaws.{sort_in-is, sort_in-under, size-under, depth-under}
 use Rattle.ath_sorts.proofs.SortLaws.{apply-con}
 use Rattle.ath_trees.proofs.ValidSorts.{valid-con}
@@ -42,18 +45,18 @@ module _ (sig : Signature) (old : Trees) (t : ℕ) (sort : Sort) (sorted : IsSor
       let p = sort_in-is sig (term_at old.terms t) (sort_at old.sorts t) (sorted.terms t inside) in
       are ∙ (λ i. (sym p i, sort) ∷ variable_pairs (with_term [] (term_at old.terms t)))
 
-  pub ascription-unsolved : (e : BuildError) → MatchSolved pairs (Err e) → MatchRefused (ascription_plan sig (term_at old.terms t) sort).pairs (λ f. term_measure sig (term_under f (term_at old.terms t))) e
-  ascription-unsolved e h = refused-solve (ascription_plan sig (term_at old.terms t) sort).pairs (λ f. term_measure sig (term_under f (term_at old.terms t))) e (subst (λ (ps : List (Sort × Sort)). MatchSolved ps (Err e)) listed h)
+  pub ascription-unsolved : (new : Trees) (e : BuildError) → MatchSolved pairs (Err e) → IsTermBuilt sig new (made_ascription sig (term_at old.terms t) sort) (Err e)
+  ascription-unsolved new e h = term_built sig new (ascription_plan sig (term_at old.terms t) sort) (Err e) (refused-solve (ascription_plan sig (term_at old.terms t) sort).pairs (λ f. term_measure sig (term_under f (term_at old.terms t))) e (subst (λ (ps : List (Sort × Sort)). MatchSolved ps (Err e)) listed h))
 
   module _ (u : List (SVar × Sort)) (solved : MatchSolved pairs (Ok u)) where
     pub solved_listed : MatchSolved (ascription_plan sig (term_at old.terms t) sort).pairs (Ok u)
     solved_listed = subst (λ (ps : List (Sort × Sort)). MatchSolved ps (Ok u)) listed solved
 
-    pub ascription-unmeasured : (e : BuildError) → MatchMeasured (term_measure sig (term_under (image u) (term_at old.terms t))) (Err e) → MatchRefused (ascription_plan sig (term_at old.terms t) sort).pairs (λ f. term_measure sig (term_under f (term_at old.terms t))) e
-    ascription-unmeasured e h = refused-measure (ascription_plan sig (term_at old.terms t) sort).pairs (λ f. term_measure sig (term_under f (term_at old.terms t))) u e solved_listed h
+    pub ascription-unmeasured : (new : Trees) (e : BuildError) → MatchMeasured (term_measure sig (term_under (image u) (term_at old.terms t))) (Err e) → IsTermBuilt sig new (made_ascription sig (term_at old.terms t) sort) (Err e)
+    ascription-unmeasured new e h = term_built sig new (ascription_plan sig (term_at old.terms t) sort) (Err e) (refused-measure (ascription_plan sig (term_at old.terms t) sort).pairs (λ f. term_measure sig (term_under f (term_at old.terms t))) u e solved_listed h)
 
-    pub ascription-built : (new : Trees) (r : TermId) (v : Unit {0}) → MatchMeasured (term_measure sig (term_under (image u) (term_at old.terms t))) (Ok v) → IsTermOf new r.0 (term_under (image u) (term_at old.terms t)) (apply_to (image u) (sort_at old.sorts t)) → MatchTerm sig new (ascription_plan sig (term_at old.terms t) sort) (Ok r)
-    ascription-built new r v h is = (
+    pub ascription-built : (new : Trees) (r : TermId) (v : Unit {0}) → MatchMeasured (term_measure sig (term_under (image u) (term_at old.terms t))) (Ok v) → IsTermOf new r.0 (term_under (image u) (term_at old.terms t)) (apply_to (image u) (sort_at old.sorts t)) → IsTermBuilt sig new (made_ascription sig (term_at old.terms t) sort) (Ok r)
+    ascription-built new r v h is = term_built sig new (ascription_plan sig (term_at old.terms t) sort) (Ok r) (
       u,
       (
         within-measure (ascription_plan sig (term_at old.terms t) sort).pairs (term_measure sig (term_under (image u) (term_at old.terms t))) u v solved_listed h,
@@ -103,19 +106,22 @@ module _ (sig : Signature) (t : Term) (id : TermId) (new : Trees) where
   atom-refused u (ArgCount a b) s h = absurd h
   atom-refused u (NotBoolean i) s h = absurd h
 
-module _ (sig : Signature) (old : Trees) (t : TermId) (sorted : IsSortedIn sig old) (inside : t.0 < length old.terms) (pairs : List (Sort × Sort)) (sort : Sort) (as_it_is : sort ≡ boolean) (are : pairs ≡ term_listed old t.0 sort) (new : Trees) where
+module _ (sig : Signature) (old : Trees) (t : TermId) (sorted : IsSortedIn sig old) (inside : t.0 < length old.terms) (pairs : List (Sort × Sort)) (sort : Sort) (as_it_is : sort ≡ boolean) (are : pairs ≡ term_listed old t.0 sort) (new : Trees) (grown : Grows old new) where
+  the_atom : (r : Result SentId BuildError) → MatchAtom sig new t (term_at old.terms t.0) r → IsSentBuilt new (made_atom sig (term_at old.terms t.0)) r
+  the_atom r h = atom_built sig new t (term_at old.terms t.0) (omega (arith, inside, grown.terms)) (grown.same_terms t.0 inside) r h
+
   boolean_listed : pairs ≡ (atom_plan sig (term_at old.terms t.0)).pairs
   boolean_listed = listed sig old t.0 sort sorted inside pairs are ∙ ap (λ s. (ascription_plan sig (term_at old.terms t.0) s).pairs) as_it_is
 
-  pub atom-unsolved : (e : BuildError) → MatchBoolean t pairs (Err e) → MatchAtom sig new t (term_at old.terms t.0) (Err e)
-  atom-unsolved e h = boolean-refused sig (term_at old.terms t.0) t new e (subst (λ (ps : List (Sort × Sort)). MatchBoolean t ps (Err e)) boolean_listed h)
+  pub atom-unsolved : (e : BuildError) → MatchBoolean t pairs (Err e) → IsSentBuilt new (made_atom sig (term_at old.terms t.0)) (Err e)
+  atom-unsolved e h = the_atom (Err e) (boolean-refused sig (term_at old.terms t.0) t new e (subst (λ (ps : List (Sort × Sort)). MatchBoolean t ps (Err e)) boolean_listed h))
 
   module _ (u : List (SVar × Sort)) (solved : MatchSolved pairs (Ok u)) where
     solved_boolean : MatchSolved (atom_plan sig (term_at old.terms t.0)).pairs (Ok u)
     solved_boolean = subst (λ (ps : List (Sort × Sort)). MatchSolved ps (Ok u)) boolean_listed solved
 
-    pub atom-unmeasured : (e : BuildError) → MatchMeasured (term_measure sig (term_under (image u) (term_at old.terms t.0))) (Err e) → MatchAtom sig new t (term_at old.terms t.0) (Err e)
-    atom-unmeasured e h = atom-refused sig (term_at old.terms t.0) t new u e solved_boolean h
+    pub atom-unmeasured : (e : BuildError) → MatchMeasured (term_measure sig (term_under (image u) (term_at old.terms t.0))) (Err e) → IsSentBuilt new (made_atom sig (term_at old.terms t.0)) (Err e)
+    atom-unmeasured e h = the_atom (Err e) (atom-refused sig (term_at old.terms t.0) t new u e solved_boolean h)
 
-    pub atom-built : (r : SentId) (v : Unit {0}) → MatchMeasured (term_measure sig (term_under (image u) (term_at old.terms t.0))) (Ok v) → IsSent new r.0 (atom (term_under (image u) (term_at old.terms t.0))) → MatchAtom sig new t (term_at old.terms t.0) (Ok r)
-    atom-built r v h is = ((image u, (solved_boolean.0.unifies.0, tt)), (u, (within-measure (atom_plan sig (term_at old.terms t.0)).pairs (term_measure sig (term_under (image u) (term_at old.terms t.0))) u v solved_boolean h, is)))
+    pub atom-built : (r : SentId) (v : Unit {0}) → MatchMeasured (term_measure sig (term_under (image u) (term_at old.terms t.0))) (Ok v) → IsSent new r.0 (atom (term_under (image u) (term_at old.terms t.0))) → IsSentBuilt new (made_atom sig (term_at old.terms t.0)) (Ok r)
+    atom-built r v h is = the_atom (Ok r) (((image u, (solved_boolean.0.unifies.0, tt)), (u, (within-measure (atom_plan sig (term_at old.terms t.0)).pairs (term_measure sig (term_under (image u) (term_at old.terms t.0))) u v solved_boolean h, is))))

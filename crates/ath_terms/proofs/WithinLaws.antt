@@ -5,9 +5,8 @@ use Rattle.std.proofs.lemmas.List.{take_all}
 use Rattle.ath_sorts.specs.declared.sorts.Sym.{Sym}
 use Rattle.ath_sorts.specs.declared.sorts.SVar.{SVar}
 use Rattle.ath_sorts.specs.declared.sorts.Sort.{Sort}
-use Rattle.ath_sorts.specs.Limits.{is_small}
+use Rattle.ath_sorts.specs.Sorts.{is_small, apply_to}
 use Rattle.ath_sorts.specs.Signature.{Signature}
-use Rattle.ath_sorts.specs.Sorts.{apply_to}
 use Rattle.ath_trees.specs.declared.node.Var.{Var as Variable}
 use Rattle.ath_trees.specs.declared.node.TermId.{TermId}
 use Rattle.ath_terms.specs.declared.node.TermNode.{TermNode}

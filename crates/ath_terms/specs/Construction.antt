@@ -1,32 +1,29 @@
--- The constructions by the user. A construction unifies a list of pairs of sorts, and its result is a tree under the least
--- most general unifier of them all: every sort in every part is replaced. The pairs are those of the construction's own
--- rule, and then for each free variable of the parts, in the order in which they occur first, the sort of the first one of
--- its name and index with its own, where these two are different variables.
-use Rattle.std.specs.Prelude.{◌≡◌, ℕ, ◌+◌, ◌<◌, ◌≤◌, ◌==◌, nat_le, Bool, true, false, IsTrue, ◌⊎◌, List, [], ◌∷◌, ◌++◌, length, map, slice_get, zip, find, Option, Some, None, Result, Ok, Err}
+-- The constructions by the user: each is a function that gives a tree, or why there is none. A construction unifies a list of
+-- pairs of sorts, and its tree is under their least most general unifier: every sort in every part is replaced. The pairs are
+-- those of the construction's own rule, and then for each free variable of the parts, in the order in which they occur first,
+-- the sort of the first one of its name and index with its own, where these two are different variables. Refusals come in
+-- this order: the number of parts; an atom whose term can't be Boolean; the first pair with which those before it lose their
+-- unifier; a sort above the limits, of the unifier or of the tree; too many nodes; too many levels.
+use Rattle.std.specs.Prelude.{ℕ, ◌+◌, ◌==◌, nat_le, nat_lt, Bool, List, [], ◌∷◌, ◌++◌, length, map, slice_index_or, zip, find, Option, Some, None, if◌then◌else◌}
 use Rattle.ath_sorts.specs.declared.sorts.Sym.{Sym}
 use Rattle.ath_sorts.specs.declared.sorts.SVar.{SVar}
 use Rattle.ath_sorts.specs.declared.sorts.SVar.TheVariants.{Made}
 use Rattle.ath_sorts.specs.declared.sorts.Sort.{Sort, Var}
 use Rattle.ath_sorts.specs.declared.signature.Symbol.{Symbol}
-use Rattle.ath_sorts.specs.Limits.{is_small}
 use Rattle.ath_sorts.specs.Sorts.{image}
 use Rattle.ath_sorts.specs.Signature.{Signature, at_sorts, boolean}
-use Rattle.ath_sorts.specs.Unifiers.{HasUnifier, IsLeastUnifier, IsClash}
+use Rattle.ath_unifiers.specs.Unified.{Unified, solved, clashes, too_large, unified}
+use Rattle.ath_trees.specs.declared.limits.TheConstants.{MOST_TERM_NODES, MOST_TERM_LEVELS}
 use Rattle.ath_trees.specs.declared.node.Var.{Var as Variable}
 use Rattle.ath_trees.specs.declared.node.Conn.{Conn}
 use Rattle.ath_trees.specs.declared.node.Binary.{Binary}
 use Rattle.ath_trees.specs.declared.node.Conn.TheVariants.{Not, And, Or, If, Iff}
-use Rattle.ath_trees.specs.declared.node.TermId.{TermId}
-use Rattle.ath_trees.specs.declared.node.SentId.{SentId}
-use Rattle.ath_terms.specs.declared.measure.BuildError.{BuildError}
-use Rattle.ath_terms.specs.declared.measure.BuildError.TheVariants.{SortClash, ArgCount, NotBoolean, TooLarge, TooDeep, SortTooLarge, Memory}
 use Rattle.ath_trees.specs.Tree.{Term, app, listed, Sent, atom, equal, negated, joined, binary_of}
-use Rattle.ath_terms.specs.Trees.{Trees, blank, IsTermOf, IsSent}
-use Rattle.ath_trees.specs.declared.limits.TheConstants.{MOST_TERM_NODES, MOST_TERM_LEVELS}
 use Rattle.ath_trees.specs.Measure.{term_size, term_depth, sent_size, sent_depth}
 use Rattle.ath_trees.specs.SortsIn.{sort_in, has_small_sorts, sent_has_small_sorts}
 use Rattle.ath_trees.specs.Variables.{is_namesake, with_term, with_terms, with_sents}
 use Rattle.ath_trees.specs.Under.{term_under, sent_under}
+use Rattle.ath_terms.specs.Blank.{blank}
 
 -- ---- the pairs
 abbrev pub pair_after : Option Variable → Variable → List (Sort × Sort)
@@ -112,7 +109,21 @@ connective_plan parts whole = record {
   tree = λ f. sent_under f whole;
 }
 
--- ---- the answers
+-- ---- what a construction comes to
+pub data Unbuilt : Type 0 where
+  -- the wanted and the given number of arguments or parts
+  counts : ℕ → ℕ → Unbuilt
+  not_boolean : Term → Unbuilt
+  clash : Sort × Sort → Unbuilt
+  sort_above : Unbuilt
+  nodes_above : ℕ → Unbuilt
+  levels_above : ℕ → Unbuilt
+
+pub data Built (T : Type 0) : Type 0 where
+  builds : T → Built T
+  refuses : Unbuilt → Built T
+
+-- whether a tree's sorts are within the limits, and its nodes and levels
 pub record Measure : Type 0 where
   pub small : Bool
   pub nodes : ℕ
@@ -124,86 +135,48 @@ term_measure sig t = record { small = has_small_sorts sig t; nodes = term_size t
 abbrev pub sent_measure : Signature → Sent → Measure
 sent_measure sig p = record { small = sent_has_small_sorts sig p; nodes = sent_size p; levels = sent_depth p }
 
--- the images of the unifier and the sorts of the tree are within the limits of a sort
-pub record IsAllowed (u : List (SVar × Sort)) (pairs : List (Sort × Sort)) (small : Bool) : Type 0 where
-  pub unifier : IsLeastUnifier u pairs
-  pub images : (v : SVar) → IsTrue (is_small (image u v))
-  pub sorts : small ≡ true
+-- a tree within the limits
+abbrev pub within : {T : Type 0} → T → Measure → Built T
+within x m =
+    if m.small
+    then (if nat_lt MOST_TERM_NODES m.nodes then refuses (nodes_above m.nodes)
+    else if nat_lt MOST_TERM_LEVELS m.levels then refuses (levels_above m.levels)
+    else builds x)
+    else refuses sort_above
 
--- an image or a sort is above them
-pub record IsForbidden (u : List (SVar × Sort)) (pairs : List (Sort × Sort)) (small : Bool) : Type 0 where
-  pub unifier : IsLeastUnifier u pairs
-  pub above : ((v : SVar) × (is_small (image u v) ≡ false)) ⊎ (small ≡ false)
+-- a clash shows the two sides of its pair, as they are listed
+abbrev pub by_unifier : {T : Type 0} → Plan T → (T → Measure) → Unified → Built T
+by_unifier p m (solved u) = within (p.tree (image u)) (m (p.tree (image u)))
+by_unifier p m (clashes at) = refuses (clash (slice_index_or p.pairs at (boolean, boolean)))
+by_unifier p m too_large = refuses sort_above
 
--- the error shows the sides of the pair at this place
-abbrev pub IsClashAt : List (Sort × Sort) → ℕ → BuildError → Type 0
-IsClashAt pairs at (SortClash a b) = slice_get pairs at ≡ Some (a, b)
-IsClashAt pairs at e = ⊥
+abbrev pub constructed : {T : Type 0} → Plan T → (T → Measure) → Built T
+constructed p m = by_unifier p m (unified p.pairs)
 
--- the answer is the least unifier, where its images are within the limits of a sort; else the clash, or that one isn't
-abbrev pub MatchSolved : List (Sort × Sort) → Result (List (SVar × Sort)) BuildError → Type 0
-MatchSolved pairs (Ok u) = IsLeastUnifier u pairs × ((v : SVar) → IsTrue (is_small (image u v)))
-MatchSolved pairs (Err (SortClash a b)) = (at : ℕ) × (IsClash pairs at × (slice_get pairs at ≡ Some (a, b)))
-MatchSolved pairs (Err SortTooLarge) = (u : List (SVar × Sort)) × (IsLeastUnifier u pairs × ((v : SVar) × (is_small (image u v) ≡ false)))
-MatchSolved pairs (Err Memory) = Unit {0}
-MatchSolved pairs (Err e) = ⊥
+-- an application of a symbol, whose sort arguments are the made sort variables from a number on
+abbrev pub made_app : Signature → ℕ → Symbol → List Term → Built Term
+made_app sig n d ts =
+    if length d.args == length ts
+    then constructed (app_plan sig n d ts) (term_measure sig)
+    else refuses (counts (length d.args) (length ts))
 
--- the same, where the first pair is an atom's
-abbrev pub MatchBoolean : TermId → List (Sort × Sort) → Result (List (SVar × Sort)) BuildError → Type 0
-MatchBoolean t pairs (Err (NotBoolean i)) = (i ≡ t) × IsClash pairs 0
-MatchBoolean t pairs (Err (SortClash a b)) = (at : ℕ) × ((0 < at) × (IsClash pairs at × (slice_get pairs at ≡ Some (a, b))))
-MatchBoolean t pairs r = MatchSolved pairs r
+abbrev pub made_equation : Signature → Term → Term → Built Sent
+made_equation sig s t = constructed (equation_plan sig s t) (sent_measure sig)
 
--- Why a tree of such a measure isn't built: first the pair with which those before it lose their unifier, as it is listed;
--- then a sort above the limits; then the number of its nodes, and that of its levels.
-abbrev pub MatchRefused : List (Sort × Sort) → ((SVar → Sort) → Measure) → BuildError → Type 0
-MatchRefused pairs m (SortClash a b) = (at : ℕ) × (IsClash pairs at × (slice_get pairs at ≡ Some (a, b)))
-MatchRefused pairs m SortTooLarge = (u : List (SVar × Sort)) × IsForbidden u pairs (m (image u)).small
-MatchRefused pairs m (TooLarge n) = (u : List (SVar × Sort)) × (IsAllowed u pairs (m (image u)).small × (MOST_TERM_NODES < (m (image u)).nodes) × (n ≡ (m (image u)).nodes))
-MatchRefused pairs m (TooDeep n) = (u : List (SVar × Sort)) × (IsAllowed u pairs (m (image u)).small × ((m (image u)).nodes ≤ MOST_TERM_NODES) × (MOST_TERM_LEVELS < (m (image u)).levels) × (n ≡ (m (image u)).levels))
-MatchRefused pairs m Memory = Unit {0}
-MatchRefused pairs m (ArgCount a b) = ⊥
-MatchRefused pairs m (NotBoolean t) = ⊥
+abbrev pub made_ascription : Signature → Term → Sort → Built Term
+made_ascription sig t sort = constructed (ascription_plan sig t sort) (term_measure sig)
 
--- what the limits say of a tree of this measure
-abbrev pub MatchMeasured : Measure → Result (Unit {0}) BuildError → Type 0
-MatchMeasured m (Ok u) = (m.small ≡ true) × (m.nodes ≤ MOST_TERM_NODES) × (m.levels ≤ MOST_TERM_LEVELS)
-MatchMeasured m (Err SortTooLarge) = m.small ≡ false
-MatchMeasured m (Err (TooLarge n)) = (m.small ≡ true) × (MOST_TERM_NODES < m.nodes) × (n ≡ m.nodes)
-MatchMeasured m (Err (TooDeep n)) = (m.small ≡ true) × (m.nodes ≤ MOST_TERM_NODES) × (MOST_TERM_LEVELS < m.levels) × (n ≡ m.levels)
-MatchMeasured m (Err e) = ⊥
+-- a term whose sort alone can't be made Boolean is none
+abbrev pub atom_by : Signature → Term → Unified → Built Sent
+atom_by sig t (solved u) = constructed (atom_plan sig t) (sent_measure sig)
+atom_by sig t (clashes at) = refuses (not_boolean t)
+atom_by sig t too_large = constructed (atom_plan sig t) (sent_measure sig)
 
--- the tree is within the limits
-pub record IsWithin (u : List (SVar × Sort)) (pairs : List (Sort × Sort)) (m : Measure) : Type 0 where
-  pub allowed : IsAllowed u pairs m.small
-  pub nodes : m.nodes ≤ MOST_TERM_NODES
-  pub levels : m.levels ≤ MOST_TERM_LEVELS
+abbrev pub made_atom : Signature → Term → Built Sent
+made_atom sig t = atom_by sig t (unified ((sort_in sig t, boolean) ∷ []))
 
--- The answer is the id of the tree by the least unifier, with its sort, where all limits are kept; else the refusal.
-abbrev pub MatchTerm : Signature → Trees → Plan Term → Result TermId BuildError → Type 0
-MatchTerm sig s p (Ok t) = (u : List (SVar × Sort)) × (IsWithin u p.pairs (term_measure sig (p.tree (image u))) × IsTermOf s t.0 (p.tree (image u)) (sort_in sig (p.tree (image u))))
-MatchTerm sig s p (Err e) = MatchRefused p.pairs (λ f. term_measure sig (p.tree f)) e
-
-abbrev pub MatchSent : Signature → Trees → Plan Sent → Result SentId BuildError → Type 0
-MatchSent sig s p (Ok q) = (u : List (SVar × Sort)) × (IsWithin u p.pairs (sent_measure sig (p.tree (image u))) × IsSent s q.0 (p.tree (image u)))
-MatchSent sig s p (Err e) = MatchRefused p.pairs (λ f. sent_measure sig (p.tree f)) e
-
--- an application is first refused for another number of arguments than is declared
-abbrev pub MatchApp : Signature → Trees → ℕ → Symbol → List Term → Result TermId BuildError → Type 0
-MatchApp sig s n d args (Err (ArgCount want given)) = (want ≡ length d.args) × (given ≡ length args) × (want ≡ given → ⊥)
-MatchApp sig s n d args r = (length d.args ≡ length args) × MatchTerm sig s (app_plan sig n d args) r
-
--- an atom is first refused where the term's sort doesn't unify with Boolean
-abbrev pub MatchAtom : Signature → Trees → TermId → Term → Result SentId BuildError → Type 0
-MatchAtom sig s id t (Err (NotBoolean i)) = (i ≡ id) × (HasUnifier ((sort_in sig t, boolean) ∷ []) → ⊥)
-MatchAtom sig s id t (Err Memory) = Unit {0}
-MatchAtom sig s id t r = HasUnifier ((sort_in sig t, boolean) ∷ []) × MatchSent sig s (atom_plan sig t) r
-
--- a connective is first refused for a number of parts that it doesn't take
-abbrev pub MatchCounted : Signature → Trees → Conn → List Sent → Bool → Result SentId BuildError → Type 0
-MatchCounted sig s c parts false (Err (ArgCount want given)) = (want ≡ wanted c) × (given ≡ length parts)
-MatchCounted sig s c parts false r = ⊥
-MatchCounted sig s c parts true r = MatchSent sig s (connective_plan parts (connected c parts)) r
-
-abbrev pub MatchConnective : Signature → Trees → Conn → List Sent → Result SentId BuildError → Type 0
-MatchConnective sig s c parts r = MatchCounted sig s c parts (takes c (length parts)) r
+abbrev pub made_connective : Signature → Conn → List Sent → Built Sent
+made_connective sig c ps =
+    if takes c (length ps)
+    then constructed (connective_plan ps (connected c ps)) (sent_measure sig)
+    else refuses (counts (wanted c) (length ps))

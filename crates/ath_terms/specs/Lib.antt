@@ -1,3 +1,4 @@
+pub mod Blank
 pub mod Trees
 pub mod Measure
 pub mod Nodes
@@ -7,4 +8,7 @@ pub mod SortsIn
 pub mod Under
 pub mod Fresh
 pub mod Construction
+pub mod Answers
+pub mod Steps
+pub mod Kept
 pub mod Plain

@@ -10,7 +10,8 @@ use Rattle.ath_terms.specs.declared.node.SentNode.{SentNode}
 use Rattle.ath_terms.specs.declared.node.SentNode.TheVariants as node
 use Rattle.ath_trees.specs.Tree.{Term, var, app, listed, Sent, atom, equal, negated, joined, bound, binary_of}
 use Rattle.ath_terms.specs.Built.{built}
-use Rattle.ath_terms.specs.Trees.{blank, term_at, sent_at}
+use Rattle.ath_terms.specs.Blank.{blank}
+use Rattle.ath_terms.specs.Trees.{term_at, sent_at}
 
 abbrev pub term_tree : List Term → TermNode → Term
 term_tree ts (Var v) = var v

@@ -6,10 +6,7 @@ use Rattle.ath_trees.specs.declared.node.TermId.{TermId}
 use Rattle.ath_terms.specs.declared.measure.BuildError.{BuildError}
 use Rattle.ath_terms.specs.declared.measure.BuildError.TheVariants.{SortClash, ArgCount, NotBoolean, TooLarge, TooDeep, SortTooLarge, Memory}
 use Rattle.ath_trees.specs.Tree.{Term, atom}
-use Rattle.std.specs.List.{All}
-use Rattle.ath_terms.specs.declared.node.SentNode.{SentNode}
-use Rattle.ath_terms.specs.declared.node.SentNode.TheVariants as node
-use Rattle.ath_terms.specs.Trees.{Trees, term_at, sent_at, IsTermOf}
+use Rattle.ath_terms.specs.Trees.{Trees, IsTermOf}
 use Rattle.ath_trees.specs.declared.limits.TheConstants.{MOST_TERM_NODES, MOST_TERM_LEVELS}
 use Rattle.ath_trees.specs.Measure.{term_size, term_depth, IsSmall}
 
@@ -22,10 +19,3 @@ IsPlainTerm s x r (Err (SortClash a b)) = ⊥
 IsPlainTerm s x r (Err (ArgCount m n)) = ⊥
 IsPlainTerm s x r (Err (NotBoolean t)) = ⊥
 IsPlainTerm s x r (Err SortTooLarge) = ⊥
-
--- the parts of a node are within the limits
-abbrev pub HasSmallParts : Trees → SentNode → Type 0
-HasSmallParts s (node.Atom t) = IsSmall (atom (term_at s.terms t.0))
-HasSmallParts s (node.Eq t u) = IsSmall (atom (term_at s.terms t.0)) × IsSmall (atom (term_at s.terms u.0))
-HasSmallParts s (node.Conn c ids) = All (λ i. IsSmall (sent_at s.sents i.0)) ids
-HasSmallParts s (node.Quant k v p) = IsSmall (sent_at s.sents p.0)

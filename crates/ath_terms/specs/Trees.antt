@@ -1,11 +1,12 @@
 -- What a store stands for.
-use Rattle.std.specs.Prelude.{◌≡◌, ℕ, ◌<◌, ◌≤◌, List, [], length, slice_index_or, refl}
+use Rattle.std.specs.Prelude.{◌≡◌, ℕ, ◌<◌, ◌≤◌, List, length, slice_index_or, refl}
 use Rattle.std.specs.Coded.{Coded, code_by, coded×, coded_list}
 use Rattle.ath_sorts.specs.contracts.sorts.Sort as sort
 use Rattle.ath_sorts.specs.declared.sorts.Sort.{Sort}
 use Rattle.ath_sorts.specs.Signature.{boolean}
-use Rattle.ath_trees.specs.Tree.{Term, app, none, Sent, atom}
-use Rattle.ath_trees.specs.Code.{term_code, sent_code}
+use Rattle.ath_trees.specs.Tree.{Term, Sent, atom}
+use Rattle.ath_trees.specs.Coded.{term_code, sent_code}
+use Rattle.ath_terms.specs.Blank.{blank}
 
 -- the trees of the terms with their sorts, and those of the sentences, by their numbers
 pub record Trees : Type 0 where
@@ -15,10 +16,6 @@ pub record Trees : Type 0 where
 
 abbrev pub trees_code : Coded Trees
 trees_code = code_by (List Term × (List Sort × List Sent)) (coded× (coded_list term_code) (coded× (coded_list sort.the_row.coded) (coded_list sent_code))) (λ s. (s.terms, (s.sorts, s.sents))) (λ p. record { terms = p.0; sorts = p.1.0; sents = p.1.1 }) (λ _. refl)
-
--- what a number past the end would stand for
-abbrev pub blank : Term
-blank = app (record { 0 = 1 }) [] none
 
 abbrev pub term_at : List Term → ℕ → Term
 term_at ts k = slice_index_or ts k blank

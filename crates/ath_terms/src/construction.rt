@@ -4,6 +4,7 @@ mod application;
 mod apply;
 mod connective;
 mod equation;
+mod keeping;
 mod limits;
 mod pairs;
 mod plain;

@@ -1,7 +1,6 @@
 // When two numbers stand for one tree.
 
-ghost use Rattle.std.specs.Prelude.{◌≡◌, ◌<◌, ◌↔◌, IsTrue, length, map};
-ghost use Rattle.std.specs.List.{All};
+ghost use Rattle.std.specs.Prelude.{◌≡◌, ◌<◌, ◌↔◌, IsTrue, length};
 ghost use Rattle.ath_terms.specs.Trees.{Trees, term_at, sent_at};
 
 use crate::node::{SentNode, TermNode};
@@ -31,6 +30,90 @@ fn are_same_sorts(some: &[Sort], others: &[Sort]) -> bool
         }
     }
     true
+}
+
+fn are_same_terms(some: &[TermId], others: &[TermId]) -> bool
+    ensures { IsTrue result → some.now ≡ others.now }
+{
+    if some.len() != others.len() {
+        return false;
+    }
+    for i in 0..some.len() {
+        if some[i].0 != others[i].0 {
+            return false;
+        }
+    }
+    true
+}
+
+fn are_same_sents(some: &[SentId], others: &[SentId]) -> bool
+    ensures { IsTrue result → some.now ≡ others.now }
+{
+    if some.len() != others.len() {
+        return false;
+    }
+    for i in 0..some.len() {
+        if some[i].0 != others[i].0 {
+            return false;
+        }
+    }
+    true
+}
+
+/// Whether two nodes are one, with parts of the same numbers.
+pub(crate) fn is_same_term_node(some: &TermNode, other: &TermNode) -> bool
+    ensures { IsTrue result → some.now ≡ other.now }
+{
+    match some {
+        TermNode::Var(v) => match other {
+            TermNode::Var(w) => is_same_var(v, w),
+            TermNode::App(_, _, _) => false,
+        },
+        TermNode::App(f, sorts, args) => match other {
+            TermNode::Var(_) => false,
+            TermNode::App(g, others, parts) => {
+                if f.0 != g.0 {
+                    return false;
+                }
+                if !are_same_terms(args.as_slice(), parts.as_slice()) {
+                    return false;
+                }
+                are_same_sorts(sorts.as_slice(), others.as_slice())
+            }
+        },
+    }
+}
+
+/// Whether two nodes are one, with parts of the same numbers. A quantifier is told as another.
+pub(crate) fn is_same_sent_node(some: &SentNode, other: &SentNode) -> bool
+    ensures { IsTrue result → some.now ≡ other.now }
+{
+    match some {
+        SentNode::Atom(s) => match other {
+            SentNode::Atom(t) => s.0 == t.0,
+            SentNode::Eq(_, _) => false,
+            SentNode::Conn(_, _) => false,
+            SentNode::Quant(_, _, _) => false,
+        },
+        SentNode::Eq(s, t) => match other {
+            SentNode::Atom(_) => false,
+            SentNode::Eq(u, v) => s.0 == u.0 && t.0 == v.0,
+            SentNode::Conn(_, _) => false,
+            SentNode::Quant(_, _, _) => false,
+        },
+        SentNode::Conn(c, ids) => match other {
+            SentNode::Atom(_) => false,
+            SentNode::Eq(_, _) => false,
+            SentNode::Conn(d, others) => {
+                if *c != *d {
+                    return false;
+                }
+                are_same_sents(ids.as_slice(), others.as_slice())
+            }
+            SentNode::Quant(_, _, _) => false,
+        },
+        SentNode::Quant(_, _, _) => false,
+    }
 }
 
 /// Whether two terms are one tree.

@@ -11,6 +11,6 @@ pub mod store;
 mod tests;
 
 pub use fresh::Fresh;
-pub use measure::{BuildError, sent_depth, sent_size, term_depth, term_size};
+pub use measure::BuildError;
 pub use node::{SentNode, TermNode};
 pub use store::Store;

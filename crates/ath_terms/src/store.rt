@@ -1,8 +1,12 @@
 // The store of nodes, which only grows.
 
-ghost use Rattle.std.specs.Prelude.{◌≡◌, ℕ, ◌+◌, ◌<◌, [], ◌∷◌, ◌++◌, length, IfOk, OnErr};
+ghost use Rattle.std.specs.Prelude.{◌≡◌, ℕ, ◌+◌, ◌<◌, ◌≤◌, true, [], ◌∷◌, ◌++◌, length, IfOk, OnErr};
+ghost use Rattle.ath_trees.specs.declared.limits.TheConstants.{MOST_TERM_NODES, MOST_TERM_LEVELS};
+ghost use Rattle.ath_trees.specs.Measure.{term_size, term_depth, sent_size, sent_depth};
+ghost use Rattle.ath_trees.specs.Under.{has_no_binder};
 ghost use Rattle.ath_terms.specs.Trees.{Trees, term_at, sort_at, sent_at, Grows, IsTerm, IsSent};
 ghost use Rattle.ath_terms.specs.Nodes.{term_tree, sent_tree, IsTermBelow, IsSentBelow};
+ghost use Rattle.ath_terms.specs.Kept.{IsTermKept, IsSentKept};
 
 use crate::node::{SentNode, TermNode};
 use ath_sorts::Sort;
@@ -10,19 +14,29 @@ use ath_trees::{SentId, TermId};
 use std::alloc::{AllocError, Global};
 use std::marker::Model;
 
-/// A term with its sort.
-#[derive(Debug, Drop)]
-pub struct SortedNode {
+/// A term with its sort, and the nodes and levels of its tree.
+#[derive(Drop)]
+pub struct KeptTerm {
     pub node: TermNode,
     pub sort: Sort,
+    pub nodes: u64,
+    pub levels: u64,
+}
+
+/// A sentence with the nodes and levels of its tree.
+#[derive(Drop)]
+pub struct KeptSent {
+    pub node: SentNode,
+    pub nodes: u64,
+    pub levels: u64,
 }
 
 /// Nodes of terms and sentences by number, whose parts have smaller numbers. A number stands for a tree, and keeps it
-/// while the store grows; that of a term keeps its sort too.
+/// while the store grows; that of a term keeps its sort too. Every tree is within the limits.
 #[derive(Drop)]
 pub struct Store {
-    terms: Vec<SortedNode>,
-    sents: Vec<SentNode>,
+    terms: Vec<KeptTerm>,
+    sents: Vec<KeptSent>,
 }
 
 impl Model for Store {
@@ -30,14 +44,15 @@ impl Model for Store {
     ghost use Rattle.ath_terms.specs.Trees.{Trees, trees_code};
     ghost use Rattle.ath_terms.specs.Nodes.{term_trees, sent_trees, IsTermBelow, IsSentBelow};
     ghost use Rattle.ath_terms.specs.Built.{IsOrdered};
+    ghost use Rattle.ath_terms.specs.Kept.{AreKept};
 
     ghost Value = { Trees };
 
     ghost coded = { trees_code };
 
-    ghost view = { λ s. record { terms = term_trees (map (λ e. e.node) s.terms.items); sorts = map (λ e. e.sort) s.terms.items; sents = sent_trees (term_trees (map (λ e. e.node) s.terms.items)) s.sents.items } };
+    ghost view = { λ s. record { terms = term_trees (map (λ e. e.node) s.terms.items); sorts = map (λ e. e.sort) s.terms.items; sents = sent_trees (term_trees (map (λ e. e.node) s.terms.items)) (map (λ e. e.node) s.sents.items) } };
 
-    ghost invariant = { λ s. IsOrdered IsTermBelow 0 (map (λ e. e.node) s.terms.items) × IsOrdered (IsSentBelow (length (map (λ e. e.node) s.terms.items))) 0 s.sents.items };
+    ghost invariant = { λ s. (IsOrdered IsTermBelow 0 (map (λ e. e.node) s.terms.items) × IsOrdered (IsSentBelow (length (map (λ e. e.node) s.terms.items))) 0 (map (λ e. e.node) s.sents.items)) × AreKept (term_trees (map (λ e. e.node) s.terms.items)) (map (λ e. record { nodes = e.nodes; levels = e.levels }) s.terms.items) (sent_trees (term_trees (map (λ e. e.node) s.terms.items)) (map (λ e. e.node) s.sents.items)) (map (λ e. record { nodes = e.nodes; levels = e.levels }) s.sents.items) };
 }
 
 impl Store {
@@ -55,9 +70,16 @@ impl Store {
         }
     }
 
-    /// Adds a node as it is with its sort: neither is looked at.
-    pub fn add_term(&mut self, node: TermNode, sort: Sort) -> Result<TermId, AllocError>
-        requires { IsTermBelow (length self.old.terms) node }
+    /// Adds a node as it is with its sort and its measure: the sorts aren't looked at.
+    pub(crate) fn add_term(
+        &mut self,
+        node: TermNode,
+        sort: Sort,
+        nodes: u64,
+        levels: u64,
+    ) -> Result<TermId, AllocError>
+        requires below { IsTermBelow (length self.old.terms) node }
+        requires kept { IsTermKept (term_tree self.old.terms node) (record { nodes = nodes; levels = levels }) }
         ensures grows { Grows self.old self.new }
         ensures tree { IfOk result (λ t. IsTerm self.new t.0 (term_tree self.old.terms node)) }
         ensures sort { IfOk result (λ t. sort_at self.new.sorts t.0 ≡ sort) }
@@ -65,20 +87,35 @@ impl Store {
         ensures err { OnErr result (self.new ≡ self.old) }
     {
         let id = TermId(self.terms.len());
-        self.terms.push(SortedNode { node, sort })?;
+        self.terms.push(KeptTerm {
+            node,
+            sort,
+            nodes,
+            levels,
+        })?;
         Ok(id)
     }
 
-    /// Adds a node as it is: its sorts are not looked at.
-    pub fn add_sent(&mut self, node: SentNode) -> Result<SentId, AllocError>
-        requires { IsSentBelow (length self.old.terms) (length self.old.sents) node }
+    /// Adds a node as it is with its measure: its sorts aren't looked at.
+    pub(crate) fn add_sent(
+        &mut self,
+        node: SentNode,
+        nodes: u64,
+        levels: u64,
+    ) -> Result<SentId, AllocError>
+        requires below { IsSentBelow (length self.old.terms) (length self.old.sents) node }
+        requires kept { IsSentKept (sent_tree self.old.terms self.old.sents node) (record { nodes = nodes; levels = levels }) }
         ensures grows { Grows self.old self.new }
         ensures tree { IfOk result (λ p. IsSent self.new p.0 (sent_tree self.old.terms self.old.sents node)) }
         ensures sorted { IfOk result (λ p. (sig : Signature) → IsSortedIn sig self.old → IsWellSorted sig (sent_tree self.old.terms self.old.sents node) → IsSortedIn sig self.new) }
         ensures err { OnErr result (self.new ≡ self.old) }
     {
         let id = SentId(self.sents.len());
-        self.sents.push(node)?;
+        self.sents.push(KeptSent {
+            node,
+            nodes,
+            levels,
+        })?;
         Ok(id)
     }
 
@@ -105,6 +142,43 @@ impl Store {
         ensures tree { sent_tree self.now.terms self.now.sents result.now ≡ sent_at self.now.sents p.0 }
         ensures below { IsSentBelow (length self.now.terms) p.0 result.now }
     {
-        &self.sents[p.0]
+        &self.sents[p.0].node
+    }
+
+    /// The nodes of a term.
+    pub fn size(&self, t: TermId) -> u64
+        requires { t.0 < length self.now.terms }
+        ensures same { result ≡ term_size (term_at self.now.terms t.0) }
+        ensures few { result ≤ MOST_TERM_NODES }
+    {
+        self.terms[t.0].nodes
+    }
+
+    /// The levels of a term.
+    pub fn depth(&self, t: TermId) -> u64
+        requires { t.0 < length self.now.terms }
+        ensures same { result ≡ term_depth (term_at self.now.terms t.0) }
+        ensures few { result ≤ MOST_TERM_LEVELS }
+    {
+        self.terms[t.0].levels
+    }
+
+    /// The nodes of a sentence, which has no quantifier.
+    pub fn sent_size(&self, p: SentId) -> u64
+        requires { p.0 < length self.now.sents }
+        ensures same { result ≡ sent_size (sent_at self.now.sents p.0) }
+        ensures few { result ≤ MOST_TERM_NODES }
+        ensures free { has_no_binder (sent_at self.now.sents p.0) ≡ true }
+    {
+        self.sents[p.0].nodes
+    }
+
+    /// The levels of a sentence.
+    pub fn sent_depth(&self, p: SentId) -> u64
+        requires { p.0 < length self.now.sents }
+        ensures same { result ≡ sent_depth (sent_at self.now.sents p.0) }
+        ensures few { result ≤ MOST_TERM_LEVELS }
+    {
+        self.sents[p.0].levels
     }
 }

@@ -1,11 +1,25 @@
 -- Worked rows: texts and their cuts.
 use Rattle.std.proofs.Common.{◌≡◌, [], ◌∷◌, ◌++◌, codes, refl}
+use Rattle.std.specs.Prelude.{ℕ, zero, suc, List, length}
 use lib.Utf8.{encode}
 use Rattle.std.specs.Str.{is_utf8, chars}
 use Rattle.std.specs.Str.Lossy.{utf8_valid_len}
 use Rattle.ath_tokens.specs.declared.tokens.LexKind.TheVariants.{BadUtf8, BadChar, OpenString}
 use Rattle.ath_tokens.specs.Spelling.{word, var, sort_var, str, punct, becomes}
-use Rattle.ath_tokens.specs.Cut.{found, ended, fault, cuts_of}
+use Rattle.ath_tokens.specs.Cut.{Cut, found, ended, fault, next_of}
+
+-- what comes from a byte on, one after another, as far as the end or the first fault: at most n
+abbrev cuts : ℕ → List ℕ → ℕ → List Cut
+cuts zero text from = []
+cuts (suc n) text from = elim (next_of text from) [
+  | found l start end ↦ found l start end ∷ cuts n text end
+  | ended ↦ ended ∷ []
+  | fault kind at ↦ fault kind at ∷ []
+]
+
+-- the whole cut of a text, which has no more tokens than bytes
+abbrev cuts_of : List ℕ → List Cut
+cuts_of text = cuts (suc (length text)) text 0
 
 declaration : cuts_of (codes "(declare A Boolean)") ≡ found (punct 40) 0 1 ∷ found (word (codes "declare")) 1 8 ∷ found (word (codes "A")) 9 10 ∷ found (word (codes "Boolean")) 11 18 ∷ found (punct 41) 18 19 ∷ ended ∷ []
 unfolding is_utf8 utf8_valid_len chars encode

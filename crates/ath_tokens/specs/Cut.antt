@@ -1,9 +1,10 @@
--- The cut of a text into longest tokens, and its first fault.
+-- The cut of a text into longest tokens, its first fault, and the names with a token's own.
 use Rattle.std.specs.Prelude.{ℕ, zero, suc, ◌+◌, ◌-◌, Bool, true, false, not, ◌&&◌, ◌||◌, ◌==◌, nat_lt, List, [], ◌∷◌, length, take, drop, slice_index, Option, Some, None, if◌then◌else◌}
 use Rattle.std.specs.List.{count_by, suffix_len}
 use Rattle.std.specs.Str.{is_utf8}
 use Rattle.std.specs.Str.Lossy.{utf8_valid_len}
 use Rattle.ath_syntax.specs.declared.place.Pos.{Pos}
+use Rattle.ath_names.specs.Names.{interned}
 use Rattle.ath_tokens.specs.declared.tokens.LexKind.{LexKind}
 use Rattle.ath_tokens.specs.declared.tokens.LexKind.TheVariants.{BadUtf8, BadChar, OpenString, NameTooLong}
 use Rattle.ath_tokens.specs.Bytes.{is_blank, is_line_end, begins_character}
@@ -76,19 +77,6 @@ next_of text from =
     if is_utf8 (take gap rest) then cut_at (from + gap) (drop gap rest)
     else fault BadUtf8 (from + utf8_valid_len (take gap rest))
 
--- what comes from a byte on, one after another, as far as the end or the first fault: at most n
-abbrev pub cuts : ℕ → List ℕ → ℕ → List Cut
-cuts zero text from = []
-cuts (suc n) text from = elim (next_of text from) [
-  | found l start end ↦ found l start end ∷ cuts n text end
-  | ended ↦ ended ∷ []
-  | fault kind at ↦ fault kind at ∷ []
-]
-
--- the whole cut of a text, which has no more tokens than bytes
-abbrev pub cuts_of : List ℕ → List Cut
-cuts_of text = cuts (suc (length text)) text 0
-
 -- the place of a byte: line and column count from 1, the column in bytes
 abbrev pub place_of : ℕ → List ℕ → ℕ → Pos
 place_of file text at = record {
@@ -96,3 +84,12 @@ place_of file text at = record {
   line = count_by is_line_end (take at text) + 1;
   col = suffix_len (λ b. not (is_line_end b)) (take at text) + 1;
 }
+
+-- the names after a token: its name is among them
+abbrev pub names_with : List (List ℕ) → Lexeme → List (List ℕ)
+names_with names (word text) = interned names text
+names_with names (var text index) = interned names text
+names_with names (sort_var text) = interned names text
+names_with names (str bytes) = names
+names_with names (punct b) = names
+names_with names becomes = names

@@ -2,23 +2,14 @@
 use Rattle.std.specs.Prelude.{◌≡◌, ℕ, List, length, Option, Some, None, Result, Ok, Err, ◌⊎◌}
 use Rattle.std.specs.Option.{option_map}
 use Rattle.ath_syntax.specs.declared.place.Pos.{Pos}
-use Rattle.ath_names.specs.Names.{number_of, interned}
+use Rattle.ath_names.specs.Names.{number_of}
 use Rattle.ath_tokens.specs.declared.tokens.LexError.{LexError}
 use Rattle.ath_tokens.specs.declared.tokens.LexKind.TheVariants.{Memory}
 use Rattle.ath_tokens.specs.declared.tokens.Token.{Token}
 use Rattle.ath_tokens.specs.declared.tokens.Token.TheVariants.{Word, Var, SortVar, Str, Punct, Becomes}
 use Rattle.ath_tokens.specs.Spelling.{Lexeme, word, var, sort_var, str, punct, becomes}
-use Rattle.ath_tokens.specs.Cut.{found, ended, fault, next_of, place_of}
+use Rattle.ath_tokens.specs.Cut.{found, ended, fault, next_of, place_of, names_with}
 use Rattle.ath_tokens.specs.Cutting.{Cutting}
-
--- the names after a token: its name is among them
-abbrev pub names_with : List (List ℕ) → Lexeme → List (List ℕ)
-names_with names (word text) = interned names text
-names_with names (var text index) = interned names text
-names_with names (sort_var text) = interned names text
-names_with names (str bytes) = names
-names_with names (punct b) = names
-names_with names becomes = names
 
 -- the token, its name by its number among the names
 abbrev pub token_of : List (List ℕ) → Lexeme → Option Token

@@ -17,8 +17,8 @@ use Rattle.ath_tokens.specs.declared.mark.Mark.{Mark}
 use Rattle.ath_tokens.specs.Mark.{IsMark}
 use Rattle.ath_tokens.specs.Bytes.{is_word_char, is_at_part}
 use Rattle.ath_tokens.specs.Spelling.{Lexeme, word, var, sort_var, str, punct, becomes}
-use Rattle.ath_tokens.specs.Cut.{longest, Cut, found, ended, fault, fault_of, cut_at, next_of, place_of}
-use Rattle.ath_tokens.specs.Next.{names_with, token_of}
+use Rattle.ath_tokens.specs.Cut.{longest, Cut, found, ended, fault, fault_of, cut_at, next_of, place_of, names_with}
+use Rattle.ath_tokens.specs.Next.{token_of}
 
 -- the first byte at which a text isn't UTF-8
 abbrev pub StopsBeingUtf8 : List ℕ → Option ℕ → Type 0

@@ -1,6 +1,6 @@
 // Strings, after their opening quote.
 
-ghost use Rattle.std.specs.Prelude.{◌≡◌, ◌<◌, length, slice_index, IsTrue, IfOk};
+ghost use Rattle.std.specs.Prelude.{◌≡◌, ◌<◌, slice_index, IsTrue, IfOk};
 ghost use Rattle.std.specs.Char.{is_ascii_hexdigit};
 ghost use Rattle.ath_tokens.specs.Bytes.{hex_value as digit_value};
 ghost use Rattle.ath_tokens.specs.Quoted.{plain, quoted};

@@ -1,6 +1,6 @@
 // Tokens one after another.
 
-ghost use Rattle.std.specs.Prelude.{◌≡◌, ◌+◌, ◌<◌, ◌≤◌, length, take, drop, None};
+ghost use Rattle.std.specs.Prelude.{◌≡◌, ◌+◌, ◌<◌, length, None};
 ghost use Rattle.std.specs.Str.{IsAscii};
 ghost use Rattle.ath_tokens.specs.Cut.{place_of};
 ghost use Rattle.ath_tokens.specs.Mark.{IsMark};

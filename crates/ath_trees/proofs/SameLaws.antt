@@ -3,7 +3,8 @@ use Rattle.std.proofs.Common.{◌↔◌, ◌≡◌, Bool, true, false, refl, sym
 use Rattle.ath_sorts.proofs.Bools.{and_parts, same_num, num_same}
 use base.Stored.{Gv, gnil, gnum, gcons}
 use Rattle.ath_trees.specs.Tree.{Sent}
-use Rattle.ath_trees.specs.Code.{code_sent, inj_sent}
+use Rattle.ath_trees.specs.Code.{code_sent}
+use Rattle.ath_trees.specs.Coded.{inj_sent}
 use Rattle.ath_trees.specs.Same.{same_code, same_sent}
 
 same_code-refl : (a : Gv) → same_code a a ≡ true

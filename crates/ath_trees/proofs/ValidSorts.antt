@@ -9,8 +9,8 @@ use Rattle.ath_sorts.specs.declared.sorts.Sort.{Sort, Var, Con}
 use Rattle.ath_sorts.specs.declared.sorts.Sort.TheOpen as one
 use Rattle.ath_sorts.specs.declared.sorts.Sort.TheVariants.{rolls-Var, rolls-Con}
 use Rattle.ath_sorts.specs.declared.sorts.Sort.TheFolds.{fold-roll-Sort}
-use Rattle.ath_sorts.specs.declared.signature.SigError.{SigError}
-use Rattle.ath_sorts.specs.declared.signature.SigError.TheVariants.{Arity, UnknownSort}
+use Rattle.ath_sorts.specs.declared.signature.Flaw.{Flaw}
+use Rattle.ath_sorts.specs.declared.signature.Flaw.TheVariants.{Arity, UnknownVariable}
 use Rattle.ath_sorts.specs.declared.signature.Symbol.{Symbol}
 use Rattle.ath_sorts.specs.Signature.{Signature, arity_of, symbol_of, symbol_among, at_sorts}
 use Rattle.ath_sorts.specs.Sorts.{image, apply_to}
@@ -82,7 +82,7 @@ module _ (sig : Signature) (f : SVar → Sort) where
       valid-con sig c args ∙ both_true (has_arity (arity_of sig c) (length args)) (list_all (is_valid_sort sig) args) (ap (has_arity (arity_of sig c)) (sym (length-of-map (apply_to f) args)) ∙ p.0) (all_back args h p.1))
 
 -- ---- declared sorts
-arity_given : (o : Option ℕ) (c : Sym) (faults : List (Option SigError)) → constructor_fault o c faults ≡ None → (has_arity o (length faults) ≡ true) × (first_fault faults ≡ None)
+arity_given : (o : Option ℕ) (c : Sym) (faults : List (Option Flaw)) → constructor_fault o c faults ≡ None → (has_arity o (length faults) ≡ true) × (first_fault faults ≡ None)
 arity_given None c faults h = absurd (cc)
 arity_given (Some k) c faults h = by (k == length faults) refl h
   where
@@ -116,13 +116,13 @@ written_at (q ∷ qs) (s ∷ ss) p f l h = by (q.0 == p.0) (λ e. written_at qs 
     by true k e = refl
     by false k e = k e
 
-param_given : (b : Bool) (e : SigError) → cond b None (Some e) ≡ None → b ≡ true
+param_given : (b : Bool) (e : Flaw) → cond b None (Some e) ≡ None → b ≡ true
 param_given true e h = refl
 param_given false e h = absurd (cc)
 
 module _ (sig : Signature) (params : List Sym) (sorts : List Sort) (f : SVar → Sort) (l : length sorts ≡ length params) where
   at_var : (v : SVar) → use_step sig params (one.Var v) ≡ None → made_step (one.Var v) ≡ false → apply_to f (image (zip (map (λ q. Written q) params) sorts) v) ≡ image (zip (map (λ q. Written q) params) (map (apply_to f) sorts)) v
-  at_var (Written p) e h = written_at params sorts p f l (param_given (list_any (λ q. q.0 == p.0) params) (UnknownSort p) e)
+  at_var (Written p) e h = written_at params sorts p f l (param_given (list_any (λ q. q.0 == p.0) params) (UnknownVariable p) e)
   at_var (Made n) e h = absurd (cc)
 
   at_all : (args : List Sort) → AllByRecursion (λ s. use_fault sig params s ≡ None → has_made s ≡ false → apply_to f (at_sorts params sorts s) ≡ at_sorts params (map (apply_to f) sorts) s) args → first_fault (map (use_fault sig params) args) ≡ None → list_any (λ b. b) (map has_made args) ≡ false → map (apply_to f) (map (at_sorts params sorts) args) ≡ map (at_sorts params (map (apply_to f) sorts)) args

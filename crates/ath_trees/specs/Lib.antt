@@ -1,5 +1,6 @@
 pub mod Tree
 pub mod Code
+pub mod Coded
 pub mod Same
 pub mod Measure
 pub mod WellSorted

@@ -3,8 +3,8 @@ use Rattle.std.proofs.Common.{◌≡◌, ℕ, zero, suc, ◌+◌, ◌<◌, ◌�
 use Rattle.std.proofs.lemmas.Grind.{common_steps}
 use Rattle.ath_sorts.specs.declared.sorts.SVar.{SVar}
 use Rattle.ath_sorts.specs.declared.sorts.Sort.{Sort, Var}
-use Rattle.ath_sorts.specs.Sorts.{same_svar, image, apply_to, occurs}
-use Rattle.ath_sorts.specs.Substitutions.{entry_of, after}
+use Rattle.ath_sorts.specs.Sorts.{same_svar, image, apply_to, occurs, after}
+use Rattle.ath_sorts.specs.Substitutions.{entry_of}
 use Rattle.ath_sorts.specs.Unifiers.{Unifies, HasUnifier, IsClash, MovesAll}
 use Rattle.ath_sorts.proofs.Bools.{true-not-false}
 use Rattle.ath_sorts.proofs.Gets.{length-map', some-inj, some-not-none}

@@ -4,8 +4,7 @@ use Rattle.ath_sorts.specs.declared.sorts.SVar.{SVar}
 use Rattle.ath_sorts.specs.declared.sorts.Sort.{Sort, Var, Con, out-Sort}
 use Rattle.ath_sorts.specs.declared.sorts.Sort.TheOpen as one
 use Rattle.ath_sorts.specs.declared.sorts.Sort.TheFolds.{fold-Sort}
-use Rattle.ath_sorts.specs.Sorts.{same_svar, image, apply_to, occurs}
-use Rattle.ath_sorts.specs.Substitutions.{after}
+use Rattle.ath_sorts.specs.Sorts.{same_svar, image, apply_to, occurs, after}
 
 -- what is found at the first place where two sorts differ: no such place, a variable and the sort that has to be put for it, or that nothing makes them equal
 pub data Difference : Type 0 where

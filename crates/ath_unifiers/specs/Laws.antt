@@ -4,7 +4,8 @@ use Rattle.ath_sorts.specs.declared.sorts.SVar.{SVar}
 use Rattle.ath_sorts.specs.declared.sorts.Sort.{Sort}
 use Rattle.ath_sorts.specs.declared.substitution.UnifyError.{UnifyError}
 use Rattle.ath_sorts.specs.Unifiers.{MatchUnified}
-use Rattle.ath_unifiers.specs.Unified.{unified, IsUnified, MatchOutcome}
+use Rattle.ath_unifiers.specs.Unified.{unified}
+use Rattle.ath_unifiers.specs.Outcomes.{IsUnified, MatchOutcome}
 
 -- the function gives the least unifier, or why there is none
 abbrev pub UnifiedIs : Type 0

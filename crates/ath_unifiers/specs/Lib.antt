@@ -1,3 +1,4 @@
 pub mod Differences
 pub mod Unified
+pub mod Outcomes
 pub mod Laws

@@ -2,28 +2,30 @@
 
 ghost use Rattle.std.specs.Prelude.{◌≡◌, ◌<◌, ◌≤◌, ◌+◌, ◌^◌, ◌&&◌, ◌++◌, ◌==◌, [], true, length, map, zip, Some, IsSome, IfOk, OnOk, if◌then◌else◌};
 ghost use Rattle.std.specs.List.{All, list_all};
-ghost use Rattle.ath_sorts.specs.Limits.{is_small};
+ghost use Rattle.ath_sorts.specs.Sorts.{is_small, image, apply_to};
 ghost use Rattle.ath_sorts.specs.Signature.{Signature, symbol_of, at_sorts};
-ghost use Rattle.ath_sorts.specs.Sorts.{image, apply_to};
 ghost use Rattle.ath_sorts.specs.declared.signature.Symbol.{Symbol};
 ghost use Rattle.ath_sorts.specs.declared.sorts.SVar.{SVar};
-ghost use Rattle.ath_trees.specs.Tree.{atom, app, listed};
+ghost use Rattle.ath_trees.specs.Tree.{app, listed};
 ghost use Rattle.ath_terms.specs.Trees.{term_at, sort_at, Grows, IsTermOf};
 ghost use Rattle.ath_terms.specs.Lists.{AreTerms};
-ghost use Rattle.ath_trees.specs.Measure.{IsSmall, terms_size, terms_depth};
+ghost use Rattle.ath_trees.specs.Measure.{terms_size, terms_depth};
+ghost use Rattle.ath_terms.specs.Kept.{IsListed};
 ghost use Rattle.ath_trees.specs.SortsIn.{have_small_sorts};
 ghost use Rattle.ath_terms.specs.SortsIn.{IsSortedIn};
 ghost use Rattle.ath_trees.specs.Variables.{with_terms};
 ghost use Rattle.ath_trees.specs.Under.{term_under, terms_under};
 ghost use Rattle.ath_trees.specs.WellSorted.{is_valid_sort, HasSort};
-ghost use Rattle.ath_terms.specs.Construction.{made_sorts, variable_pairs, term_measure, app_plan, MatchMeasured, MatchTerm, MatchApp};
+ghost use Rattle.ath_terms.specs.Construction.{made_sorts, variable_pairs, made_app};
+ghost use Rattle.ath_terms.specs.Answers.{IsTermBuilt};
+ghost use Rattle.ath_terms.specs.Steps.{MatchMeasured};
 
 use crate::construction::apply::{are_sorts_within, is_term_within, sorts_under, term_under};
 use crate::construction::limits::check_limits;
 use crate::construction::pairs::{add_pair, add_variable_pairs, solve};
 use crate::construction::variables::add_term_vars;
 use crate::fresh::Fresh;
-use crate::measure::{BuildError, term_depth, term_size};
+use crate::measure::BuildError;
 use crate::node::TermNode;
 use crate::store::Store;
 use ath_sorts::sorts::copied;
@@ -104,27 +106,25 @@ fn are_terms_within(store: &Store, subst: &SortSubst, args: &[TermId]) -> bool
 pub(crate) fn list_size(store: &Store, args: &[TermId]) -> u64
     requires few { length args.now ≤ 4194304 }
     requires inside { All (λ i. i.0 < length store.now.terms) args.now }
-    requires small { All (λ i. IsSmall (atom (term_at store.now.terms i.0))) args.now }
     ensures same { result ≡ terms_size (listed (map (λ i. term_at store.now.terms i.0) args.now)) }
     ensures room { result ≤ 419430400000 }
 {
     let mut nodes: u64 = 0;
     for i in 0..args.len() {
-        nodes += term_size(store, args[i]);
+        nodes += store.size(args[i]);
     }
     nodes
 }
 
 /// The levels of some terms.
 pub(crate) fn list_depth(store: &Store, args: &[TermId]) -> u64
-    requires inside { All (λ i. i.0 < length store.now.terms) args.now }
-    requires small { All (λ i. IsSmall (atom (term_at store.now.terms i.0))) args.now }
+    requires { All (λ i. i.0 < length store.now.terms) args.now }
     ensures same { result ≡ terms_depth (listed (map (λ i. term_at store.now.terms i.0) args.now)) }
     ensures room { result ≤ 2000 }
 {
     let mut levels: u64 = 0;
     for i in 0..args.len() {
-        levels = levels.max(term_depth(store, args[i]));
+        levels = levels.max(store.depth(args[i]));
     }
     levels
 }
@@ -197,8 +197,8 @@ fn check_app(
 ) -> Result<(), BuildError>
     requires few { length args.now ≤ 4194304 }
     requires inside { All (λ i. i.0 < length store.now.terms) args.now }
-    requires small { All (λ i. IsSmall (atom (term_at store.now.terms i.0))) args.now }
-    ensures { (sig : Signature) → IsSortedIn sig store.now → MatchMeasured (record { small = is_small (apply_to (image subst.now) sort.now) && (list_all (λ s. is_small (apply_to (image subst.now) s)) made.now && have_small_sorts sig (terms_under (image subst.now) (listed (map (λ i. term_at store.now.terms i.0) args.now)))); nodes = 1 + terms_size (listed (map (λ i. term_at store.now.terms i.0) args.now)); levels = 1 + terms_depth (listed (map (λ i. term_at store.now.terms i.0) args.now)) }) result }
+    ensures few { OnOk result (IsListed (listed (map (λ i. term_at store.now.terms i.0) args.now))) }
+    ensures measured { (sig : Signature) → IsSortedIn sig store.now → MatchMeasured (record { small = is_small (apply_to (image subst.now) sort.now) && (list_all (λ s. is_small (apply_to (image subst.now) s)) made.now && have_small_sorts sig (terms_under (image subst.now) (listed (map (λ i. term_at store.now.terms i.0) args.now)))); nodes = 1 + terms_size (listed (map (λ i. term_at store.now.terms i.0) args.now)); levels = 1 + terms_depth (listed (map (λ i. term_at store.now.terms i.0) args.now)) }) result }
 {
     let small = is_app_within(store, subst, made, sort, args);
     let nodes = 1 + list_size(store, args);
@@ -216,15 +216,20 @@ fn add_app(
     sort: &Sort,
     args: &[TermId],
 ) -> Result<TermId, AllocError>
-    requires { All (λ i. i.0 < length store.old.terms) args.now }
+    requires few { length args.now ≤ 4194304 }
+    requires inside { All (λ i. i.0 < length store.old.terms) args.now }
+    requires small { IsListed (listed (map (λ i. term_at store.old.terms i.0) args.now)) }
     ensures grows { Grows store.old store.new }
     ensures tree { IfOk result (λ r. IsTermOf store.new r.0 (term_under (image subst.now) (app name made.now (listed (map (λ i. term_at store.old.terms i.0) args.now)))) (apply_to (image subst.now) sort.now)) }
     ensures sorted { (sig : Signature) → IsSortedIn sig store.old → ((v : SVar) → is_valid_sort sig (image subst.now v) ≡ true) → HasSort sig (term_under (image subst.now) (app name made.now (listed (map (λ i. term_at store.old.terms i.0) args.now)))) (apply_to (image subst.now) sort.now) → IsSortedIn sig store.new }
 {
+    let nodes = 1 + list_size(store, args);
+    let levels = 1 + list_depth(store, args);
     let images = sorts_under(alloc, subst, made)?;
     let whole = subst.applied(alloc, sort)?;
     let parts = terms_under(alloc, store, subst, args)?;
-    let term = store.add_term(TermNode::App(name, images, parts), whole)?;
+    let node = TermNode::App(name, images, parts);
+    let term = store.add_term(node, whole, nodes, levels)?;
     Ok(term)
 }
 
@@ -240,10 +245,9 @@ fn build_app(
     requires same { length symbol.now.args ≡ length args.now }
     requires few { length args.now ≤ 4194304 }
     requires inside { All (λ i. i.0 < length store.old.terms) args.now }
-    requires small { All (λ i. IsSmall (atom (term_at store.old.terms i.0))) args.now }
     ensures grows { Grows store.old store.new }
     ensures inside { IfOk result (λ r. r.0 < length store.new.terms) }
-    ensures built { (sig : Signature) → IsSortedIn sig store.old → symbol_of sig symbol.now.name ≡ Some symbol.now → MatchTerm sig store.new (app_plan sig first symbol.now (map (λ i. term_at store.old.terms i.0) args.now)) result }
+    ensures built { (sig : Signature) → IsSortedIn sig store.old → symbol_of sig symbol.now.name ≡ Some symbol.now → IsTermBuilt sig store.new (made_app sig first symbol.now (map (λ i. term_at store.old.terms i.0) args.now)) result }
     ensures sorted { (sig : Signature) → IsSortedIn sig store.old → symbol_of sig symbol.now.name ≡ Some symbol.now → IsSortedIn sig store.new }
 {
     let made = made_sorts(alloc, first, symbol.params.as_slice())?;
@@ -279,11 +283,10 @@ impl Store {
         requires counter { fresh.old.sort < 2 ^ 62 }
         requires few { length args.now.items ≤ 4194304 }
         requires inside { All (λ i. i.0 < length self.old.terms) args.now.items }
-        requires small { All (λ i. IsSmall (atom (term_at self.old.terms i.0))) args.now.items }
         ensures grows { Grows self.old self.new }
         ensures counters { (d : Symbol) → symbol_of sig.now f ≡ Some d → fresh.new ≡ record { var = fresh.old.var; sort = (if length d.args == length args.now.items then fresh.old.sort + length d.params else fresh.old.sort) } }
         ensures inside { IfOk result (λ r. r.0 < length self.new.terms) }
-        ensures built { IsSortedIn sig.now self.old → (d : Symbol) → symbol_of sig.now f ≡ Some d → MatchApp sig.now self.new fresh.old.sort d (map (λ i. term_at self.old.terms i.0) args.now.items) result }
+        ensures built { IsSortedIn sig.now self.old → (d : Symbol) → symbol_of sig.now f ≡ Some d → IsTermBuilt sig.now self.new (made_app sig.now fresh.old.sort d (map (λ i. term_at self.old.terms i.0) args.now.items)) result }
         ensures sorted { IsSortedIn sig.now self.old → IsSortedIn sig.now self.new }
     {
         let symbol = sig.symbol(f).unwrap();

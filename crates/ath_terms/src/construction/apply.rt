@@ -1,22 +1,26 @@
-// Terms and sentences of a store under a sort substitution. What is built has new nodes, which aren't shared.
+// Terms of a store under a sort substitution. Only what it changes has new nodes.
 
-ghost use Rattle.std.specs.Prelude.{◌≡◌, ◌<◌, true, length, map, IfOk};
+ghost use Rattle.std.specs.Prelude.{◌≡◌, ◌<◌, true, IsTrue, length, map, IfOk, OnErr};
 ghost use Rattle.std.specs.List.{list_all};
-ghost use Rattle.ath_sorts.specs.Limits.{is_small};
+ghost use Rattle.ath_sorts.specs.Sorts.{is_small, image, apply_to};
 ghost use Rattle.ath_sorts.specs.Signature.{Signature};
-ghost use Rattle.ath_sorts.specs.Sorts.{image, apply_to};
 ghost use Rattle.ath_sorts.specs.declared.sorts.SVar.{SVar};
-ghost use Rattle.ath_terms.specs.Trees.{term_at, sort_at, sent_at, Grows, IsTermOf, IsSent};
-ghost use Rattle.ath_trees.specs.SortsIn.{has_small_sorts, sent_has_small_sorts};
+ghost use Rattle.ath_terms.specs.Kept.{IsTermKept};
+ghost use Rattle.ath_terms.specs.Nodes.{term_tree, IsTermBelow};
+ghost use Rattle.ath_terms.specs.Trees.{term_at, sort_at, Grows, IsTermOf};
+ghost use Rattle.ath_trees.specs.SortsIn.{has_small_sorts};
 ghost use Rattle.ath_terms.specs.SortsIn.{IsSortedIn};
-ghost use Rattle.ath_trees.specs.Under.{term_under, sent_under};
+ghost use Rattle.ath_trees.specs.Under.{term_under};
 ghost use Rattle.ath_terms.specs.Under.{node_under};
-ghost use Rattle.ath_trees.specs.WellSorted.{is_valid_sort};
+ghost use Rattle.ath_trees.specs.WellSorted.{is_valid_sort, HasSort};
 
-use crate::node::{SentNode, TermNode};
+use crate::construction::keeping::leaves_term;
+use crate::equality::is_same_term_node;
+use crate::node::TermNode;
 use crate::store::Store;
+use ath_sorts::sorts::is_same;
 use ath_sorts::{Sort, SortSubst};
-use ath_trees::{SentId, TermId, Var};
+use ath_trees::{TermId, Var};
 use sqlite_items::Items;
 use std::alloc::{AllocError, Global};
 
@@ -91,7 +95,77 @@ fn node_under(alloc: Global, subst: &SortSubst, node: &TermNode) -> Result<TermN
     }
 }
 
-/// The term under the substitution.
+/// Whether a term has this node and this sort.
+fn has_node(store: &Store, t: TermId, node: &TermNode, sort: &Sort) -> bool
+    requires { t.0 < length store.now.terms }
+    ensures { IsTrue result → IsTermOf store.now t.0 (term_tree store.now.terms node.now) sort.now }
+{
+    if !is_same_term_node(store.term(t), node) {
+        return false;
+    }
+    is_same(store.sort_of(t), sort)
+}
+
+/// Keeps the node that a term has where this is it, and adds it else.
+fn keep_term(
+    store: &mut Store,
+    t: TermId,
+    node: TermNode,
+    sort: Sort,
+    nodes: u64,
+    levels: u64,
+) -> Result<TermId, AllocError>
+    requires inside { t.0 < length store.old.terms }
+    requires below { IsTermBelow (length store.old.terms) node }
+    requires kept { IsTermKept (term_tree store.old.terms node) (record { nodes = nodes; levels = levels }) }
+    ensures grows { Grows store.old store.new }
+    ensures tree { IfOk result (λ r. IsTermOf store.new r.0 (term_tree store.old.terms node) sort) }
+    ensures sorted { IfOk result (λ r. (sig : Signature) → IsSortedIn sig store.old → HasSort sig (term_tree store.old.terms node) sort → IsSortedIn sig store.new) }
+    ensures err { OnErr result (store.new ≡ store.old) }
+{
+    if has_node(store, t, &node, &sort) {
+        return Ok(t);
+    }
+    let term = store.add_term(node, sort, nodes, levels)?;
+    Ok(term)
+}
+
+/// The term under the substitution, part by part. A part that comes out as it was keeps its number.
+fn renewed_term(
+    alloc: Global,
+    store: &mut Store,
+    subst: &SortSubst,
+    t: TermId,
+) -> Result<TermId, AllocError>
+    requires { t.0 < length store.old.terms }
+    ensures grows { Grows store.old store.new }
+    ensures tree { IfOk result (λ r. IsTermOf store.new r.0 (term_under (image subst.now) (term_at store.old.terms t.0)) (apply_to (image subst.now) (sort_at store.old.sorts t.0))) }
+    ensures sorted { (sig : Signature) → IsSortedIn sig store.old → ((v : SVar) → is_valid_sort sig (image subst.now v) ≡ true) → IsSortedIn sig store.new }
+{
+    let nodes = store.size(t);
+    let levels = store.depth(t);
+    let node = node_under(alloc, subst, store.term(t))?;
+    let sort = subst.applied(alloc, store.sort_of(t))?;
+    match node {
+        TermNode::Var(v) => {
+            let term = keep_term(store, t, TermNode::Var(v), sort, nodes, levels)?;
+            Ok(term)
+        }
+        TermNode::App(symbol, sorts, args) => {
+            let ids = args.as_slice();
+            let mut parts = Items::new(alloc);
+            for i in 0..ids.len() {
+                let part = renewed_term(alloc, store, subst, ids[i])?;
+                parts.push(part)?;
+            }
+            let whole = TermNode::App(symbol, sorts, parts);
+            let term = keep_term(store, t, whole, sort, nodes, levels)?;
+            Ok(term)
+        }
+    }
+}
+
+/// The term under the substitution. Where it is left as it is, nothing is copied.
 pub(crate) fn term_under(
     alloc: Global,
     store: &mut Store,
@@ -103,22 +177,9 @@ pub(crate) fn term_under(
     ensures tree { IfOk result (λ r. IsTermOf store.new r.0 (term_under (image subst.now) (term_at store.old.terms t.0)) (apply_to (image subst.now) (sort_at store.old.sorts t.0))) }
     ensures sorted { (sig : Signature) → IsSortedIn sig store.old → ((v : SVar) → is_valid_sort sig (image subst.now v) ≡ true) → IsSortedIn sig store.new }
 {
-    let node = node_under(alloc, subst, store.term(t))?;
-    let sort = subst.applied(alloc, store.sort_of(t))?;
-    match node {
-        TermNode::Var(v) => {
-            let term = store.add_term(TermNode::Var(v), sort)?;
-            Ok(term)
-        }
-        TermNode::App(symbol, sorts, args) => {
-            let ids = args.as_slice();
-            let mut parts = Items::new(alloc);
-            for i in 0..ids.len() {
-                let part = term_under(alloc, store, subst, ids[i])?;
-                parts.push(part)?;
-            }
-            let term = store.add_term(TermNode::App(symbol, sorts, parts), sort)?;
-            Ok(term)
-        }
+    if leaves_term(store, subst, t) {
+        return Ok(t);
     }
+    let term = renewed_term(alloc, store, subst, t)?;
+    Ok(term)
 }

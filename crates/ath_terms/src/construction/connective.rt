@@ -1,26 +1,28 @@
 // Connectives.
 
-ghost use Rattle.std.specs.Prelude.{◌≡◌, ◌<◌, ◌≤◌, true, length, map, IfOk, []};
+ghost use Rattle.std.specs.Prelude.{◌≡◌, ◌<◌, ◌≤◌, true, length, map, IfOk, OnOk, []};
 ghost use Rattle.std.specs.List.{All, list_all};
 ghost use Rattle.ath_sorts.specs.Signature.{Signature};
 ghost use Rattle.ath_sorts.specs.Sorts.{image};
 ghost use Rattle.ath_sorts.specs.declared.sorts.SVar.{SVar};
 ghost use Rattle.ath_trees.specs.declared.node.Binary.{Binary};
 ghost use Rattle.ath_terms.specs.Trees.{sent_at, Grows, IsSent};
-ghost use Rattle.ath_trees.specs.Tree.{negated};
+ghost use Rattle.ath_trees.specs.Tree.{negated, joined};
 ghost use Rattle.ath_trees.specs.Measure.{IsSmall, sent_size, sent_depth};
 ghost use Rattle.ath_trees.specs.SortsIn.{sent_has_small_sorts};
 ghost use Rattle.ath_terms.specs.SortsIn.{IsSortedIn};
 ghost use Rattle.ath_trees.specs.Variables.{with_sents};
-ghost use Rattle.ath_trees.specs.Under.{sent_under, has_no_binder};
+ghost use Rattle.ath_trees.specs.Under.{sent_under};
 ghost use Rattle.ath_trees.specs.WellSorted.{is_valid_sort};
-ghost use Rattle.ath_terms.specs.Construction.{takes, wanted, grouped, connected, connective_plan, variable_pairs, sent_measure, MatchMeasured, MatchSent, MatchConnective};
+ghost use Rattle.ath_terms.specs.Construction.{takes, wanted, grouped, connected, variable_pairs, sent_measure, made_connective};
+ghost use Rattle.ath_terms.specs.Answers.{IsSentBuilt};
+ghost use Rattle.ath_terms.specs.Steps.{MatchMeasured};
 
 use crate::construction::limits::check_limits;
 use crate::construction::pairs::{add_variable_pairs, solve};
 use crate::construction::sentence::{is_sent_within, sent_under};
 use crate::construction::variables::add_sent_vars;
-use crate::measure::{BuildError, add_joined, sent_depth, sent_size};
+use crate::measure::BuildError;
 use crate::node::SentNode;
 use crate::store::Store;
 use ath_sorts::{Sort, SortSubst};
@@ -29,7 +31,7 @@ use sqlite_items::Items;
 use std::alloc::{AllocError, Global};
 
 /// Whether the connective takes so many parts.
-fn takes(c: Conn, parts: usize) -> bool
+pub fn takes(c: Conn, parts: usize) -> bool
     ensures { result ≡ takes c parts }
 {
     match c {
@@ -42,7 +44,7 @@ fn takes(c: Conn, parts: usize) -> bool
 }
 
 /// The number of parts that is told as wanted.
-fn wanted(c: Conn) -> usize
+pub fn wanted(c: Conn) -> usize
     ensures { result ≡ wanted c }
 {
     match c {
@@ -96,12 +98,11 @@ fn grouped_size(store: &Store, parts: &[SentId]) -> u64
     requires some { 0 < length parts.now }
     requires few { length parts.now ≤ 4194304 }
     requires inside { All (λ i. i.0 < length store.now.sents) parts.now }
-    requires small { All (λ i. IsSmall (sent_at store.now.sents i.0)) parts.now }
     ensures { (c : Binary) → result ≡ sent_size (grouped c (map (λ i. sent_at store.now.sents i.0) parts.now)) }
 {
     let mut nodes: u64 = 0;
     for i in 0..parts.len() {
-        nodes += 1 + sent_size(store, parts[i]);
+        nodes += 1 + store.sent_size(parts[i]);
     }
     nodes - 1
 }
@@ -111,14 +112,13 @@ fn grouped_depth(store: &Store, parts: &[SentId]) -> u64
     requires some { 0 < length parts.now }
     requires few { length parts.now ≤ 4194304 }
     requires inside { All (λ i. i.0 < length store.now.sents) parts.now }
-    requires small { All (λ i. IsSmall (sent_at store.now.sents i.0)) parts.now }
     ensures { (c : Binary) → result ≡ sent_depth (grouped c (map (λ i. sent_at store.now.sents i.0) parts.now)) }
 {
     let mut i = parts.len() - 1;
-    let mut levels = sent_depth(store, parts[i]);
+    let mut levels = store.sent_depth(parts[i]);
     while i > 0 {
         i -= 1;
-        levels = 1 + sent_depth(store, parts[i]).max(levels);
+        levels = 1 + store.sent_depth(parts[i]).max(levels);
     }
     levels
 }
@@ -127,11 +127,10 @@ fn connected_size(store: &Store, c: Conn, parts: &[SentId]) -> u64
     requires count { takes c (length parts.now) ≡ true }
     requires few { length parts.now ≤ 4194304 }
     requires inside { All (λ i. i.0 < length store.now.sents) parts.now }
-    requires small { All (λ i. IsSmall (sent_at store.now.sents i.0)) parts.now }
     ensures { result ≡ sent_size (connected c (map (λ i. sent_at store.now.sents i.0) parts.now)) }
 {
     if c == Conn::Not {
-        return 1 + sent_size(store, parts[0]);
+        return 1 + store.sent_size(parts[0]);
     }
     grouped_size(store, parts)
 }
@@ -140,11 +139,10 @@ fn connected_depth(store: &Store, c: Conn, parts: &[SentId]) -> u64
     requires count { takes c (length parts.now) ≡ true }
     requires few { length parts.now ≤ 4194304 }
     requires inside { All (λ i. i.0 < length store.now.sents) parts.now }
-    requires small { All (λ i. IsSmall (sent_at store.now.sents i.0)) parts.now }
     ensures { result ≡ sent_depth (connected c (map (λ i. sent_at store.now.sents i.0) parts.now)) }
 {
     if c == Conn::Not {
-        return 1 + sent_depth(store, parts[0]);
+        return 1 + store.sent_depth(parts[0]);
     }
     grouped_depth(store, parts)
 }
@@ -158,13 +156,36 @@ fn check_connective(
     requires count { takes c (length parts.now) ≡ true }
     requires few { length parts.now ≤ 4194304 }
     requires inside { All (λ i. i.0 < length store.now.sents) parts.now }
-    requires small { All (λ i. IsSmall (sent_at store.now.sents i.0)) parts.now }
-    ensures { (sig : Signature) → IsSortedIn sig store.now → MatchMeasured (sent_measure sig (sent_under (image subst.now) (connected c (map (λ i. sent_at store.now.sents i.0) parts.now)))) result }
+    ensures few { OnOk result (IsSmall (connected c (map (λ i. sent_at store.now.sents i.0) parts.now))) }
+    ensures measured { (sig : Signature) → IsSortedIn sig store.now → MatchMeasured (sent_measure sig (sent_under (image subst.now) (connected c (map (λ i. sent_at store.now.sents i.0) parts.now)))) result }
 {
     let small = are_sents_within(store, subst, parts);
     let nodes = connected_size(store, c, parts);
     let levels = connected_depth(store, c, parts);
     check_limits(small, nodes, levels)
+}
+
+fn add_joined(
+    alloc: Global,
+    store: &mut Store,
+    conn: Binary,
+    p: SentId,
+    q: SentId,
+) -> Result<SentId, AllocError>
+    requires left { p.0 < length store.old.sents }
+    requires right { q.0 < length store.old.sents }
+    requires small { IsSmall (joined conn (sent_at store.old.sents p.0) (sent_at store.old.sents q.0)) }
+    ensures grows { Grows store.old store.new }
+    ensures tree { IfOk result (λ r. IsSent store.new r.0 (joined conn (sent_at store.old.sents p.0) (sent_at store.old.sents q.0))) }
+    ensures sorted { (sig : Signature) → IsSortedIn sig store.old → IsSortedIn sig store.new }
+{
+    let nodes = 1 + store.sent_size(p) + store.sent_size(q);
+    let levels = 1 + store.sent_depth(p).max(store.sent_depth(q));
+    let mut parts = Items::new(alloc);
+    parts.push(p)?;
+    parts.push(q)?;
+    let sent = store.add_sent(SentNode::Conn(conn.conn(), parts), nodes, levels)?;
+    Ok(sent)
 }
 
 fn add_negated(
@@ -173,15 +194,18 @@ fn add_negated(
     subst: &SortSubst,
     p: SentId,
 ) -> Result<SentId, AllocError>
-    requires { p.0 < length store.old.sents }
+    requires inside { p.0 < length store.old.sents }
+    requires small { IsSmall (negated (sent_at store.old.sents p.0)) }
     ensures grows { Grows store.old store.new }
     ensures tree { IfOk result (λ r. IsSent store.new r.0 (sent_under (image subst.now) (negated (sent_at store.old.sents p.0)))) }
     ensures sorted { (sig : Signature) → IsSortedIn sig store.old → ((v : SVar) → is_valid_sort sig (image subst.now v) ≡ true) → IsSortedIn sig store.new }
 {
+    let nodes = 1 + store.sent_size(p);
+    let levels = 1 + store.sent_depth(p);
     let part = sent_under(alloc, store, subst, p)?;
     let mut parts = Items::new(alloc);
     parts.push(part)?;
-    let sent = store.add_sent(SentNode::Conn(Conn::Not, parts))?;
+    let sent = store.add_sent(SentNode::Conn(Conn::Not, parts), nodes, levels)?;
     Ok(sent)
 }
 
@@ -194,6 +218,7 @@ fn add_grouped(
 ) -> Result<SentId, AllocError>
     requires some { 0 < length parts.now }
     requires inside { All (λ i. i.0 < length store.old.sents) parts.now }
+    requires small { IsSmall (grouped c (map (λ i. sent_at store.old.sents i.0) parts.now)) }
     ensures grows { Grows store.old store.new }
     ensures tree { IfOk result (λ r. IsSent store.new r.0 (sent_under (image subst.now) (grouped c (map (λ i. sent_at store.old.sents i.0) parts.now)))) }
     ensures sorted { (sig : Signature) → IsSortedIn sig store.old → ((v : SVar) → is_valid_sort sig (image subst.now v) ≡ true) → IsSortedIn sig store.new }
@@ -217,6 +242,7 @@ fn add_connected(
 ) -> Result<SentId, AllocError>
     requires count { takes c (length parts.now) ≡ true }
     requires inside { All (λ i. i.0 < length store.old.sents) parts.now }
+    requires small { IsSmall (connected c (map (λ i. sent_at store.old.sents i.0) parts.now)) }
     ensures grows { Grows store.old store.new }
     ensures tree { IfOk result (λ r. IsSent store.new r.0 (sent_under (image subst.now) (connected c (map (λ i. sent_at store.old.sents i.0) parts.now)))) }
     ensures sorted { (sig : Signature) → IsSortedIn sig store.old → ((v : SVar) → is_valid_sort sig (image subst.now v) ≡ true) → IsSortedIn sig store.new }
@@ -236,10 +262,9 @@ fn build_connective(
     requires count { takes c (length parts.now) ≡ true }
     requires few { length parts.now ≤ 4194304 }
     requires inside { All (λ i. i.0 < length store.old.sents) parts.now }
-    requires small { All (λ i. IsSmall (sent_at store.old.sents i.0)) parts.now }
     ensures grows { Grows store.old store.new }
     ensures inside { IfOk result (λ r. r.0 < length store.new.sents) }
-    ensures built { (sig : Signature) → IsSortedIn sig store.old → MatchSent sig store.new (connective_plan (map (λ i. sent_at store.old.sents i.0) parts.now) (connected c (map (λ i. sent_at store.old.sents i.0) parts.now))) result }
+    ensures built { (sig : Signature) → IsSortedIn sig store.old → IsSentBuilt store.new (made_connective sig c (map (λ i. sent_at store.old.sents i.0) parts.now)) result }
     ensures sorted { (sig : Signature) → IsSortedIn sig store.old → IsSortedIn sig store.new }
 {
     let pairs = connective_pairs(alloc, store, parts)?;
@@ -250,8 +275,7 @@ fn build_connective(
 }
 
 impl Store {
-    /// The connective of some sentences, grouped to the right where there are more than two. The sentences hold no
-    /// quantifier: that is asked until quantifiers are built.
+    /// The connective of some sentences, grouped to the right where there are more than two.
     pub fn connective(
         &mut self,
         alloc: Global,
@@ -260,11 +284,9 @@ impl Store {
     ) -> Result<SentId, BuildError>
         requires few { length parts.now.items ≤ 4194304 }
         requires inside { All (λ i. i.0 < length self.old.sents) parts.now.items }
-        requires small { All (λ i. IsSmall (sent_at self.old.sents i.0)) parts.now.items }
-        requires free { All (λ i. has_no_binder (sent_at self.old.sents i.0) ≡ true) parts.now.items }
         ensures grows { Grows self.old self.new }
         ensures inside { IfOk result (λ r. r.0 < length self.new.sents) }
-        ensures built { (sig : Signature) → IsSortedIn sig self.old → MatchConnective sig self.new c (map (λ i. sent_at self.old.sents i.0) parts.now.items) result }
+        ensures built { (sig : Signature) → IsSortedIn sig self.old → IsSentBuilt self.new (made_connective sig c (map (λ i. sent_at self.old.sents i.0) parts.now.items)) result }
         ensures sorted { (sig : Signature) → IsSortedIn sig self.old → IsSortedIn sig self.new }
     {
         if !takes(c, parts.len()) {

@@ -1,10 +1,10 @@
 // Equations.
 
-ghost use Rattle.std.specs.Prelude.{◌≡◌, ◌<◌, ◌&&◌, ◌∷◌, [], true, length, IfOk};
+ghost use Rattle.std.specs.Prelude.{◌≡◌, ◌<◌, ◌&&◌, ◌∷◌, [], true, length, IfOk, OnOk};
 ghost use Rattle.ath_sorts.specs.Signature.{Signature};
 ghost use Rattle.ath_sorts.specs.Sorts.{image, apply_to};
 ghost use Rattle.ath_sorts.specs.declared.sorts.SVar.{SVar};
-ghost use Rattle.ath_trees.specs.Tree.{atom, equal};
+ghost use Rattle.ath_trees.specs.Tree.{equal};
 ghost use Rattle.ath_terms.specs.Trees.{term_at, sort_at, Grows, IsSent};
 ghost use Rattle.ath_trees.specs.Measure.{IsSmall};
 ghost use Rattle.ath_trees.specs.SortsIn.{has_small_sorts};
@@ -12,13 +12,15 @@ ghost use Rattle.ath_terms.specs.SortsIn.{IsSortedIn};
 ghost use Rattle.ath_trees.specs.Variables.{with_term};
 ghost use Rattle.ath_trees.specs.Under.{term_under, sent_under};
 ghost use Rattle.ath_trees.specs.WellSorted.{is_valid_sort};
-ghost use Rattle.ath_terms.specs.Construction.{variable_pairs, sent_measure, equation_plan, MatchMeasured, MatchSent};
+ghost use Rattle.ath_terms.specs.Construction.{variable_pairs, sent_measure, made_equation};
+ghost use Rattle.ath_terms.specs.Answers.{IsSentBuilt};
+ghost use Rattle.ath_terms.specs.Steps.{MatchMeasured};
 
 use crate::construction::apply::{is_term_within, term_under};
 use crate::construction::limits::check_limits;
 use crate::construction::pairs::{add_pair, add_variable_pairs, solve};
 use crate::construction::variables::add_term_vars;
-use crate::measure::{BuildError, term_depth, term_size};
+use crate::measure::BuildError;
 use crate::node::SentNode;
 use crate::store::Store;
 use ath_sorts::{Sort, SortSubst};
@@ -58,17 +60,16 @@ pub(crate) fn are_both_within(store: &Store, subst: &SortSubst, s: TermId, t: Te
 fn check_equation(store: &Store, subst: &SortSubst, s: TermId, t: TermId) -> Result<(), BuildError>
     requires left { s.0 < length store.now.terms }
     requires right { t.0 < length store.now.terms }
-    requires left_small { IsSmall (atom (term_at store.now.terms s.0)) }
-    requires right_small { IsSmall (atom (term_at store.now.terms t.0)) }
-    ensures { (sig : Signature) → IsSortedIn sig store.now → MatchMeasured (sent_measure sig (sent_under (image subst.now) (equal (term_at store.now.terms s.0) (term_at store.now.terms t.0)))) result }
+    ensures measured { (sig : Signature) → IsSortedIn sig store.now → MatchMeasured (sent_measure sig (sent_under (image subst.now) (equal (term_at store.now.terms s.0) (term_at store.now.terms t.0)))) result }
+    ensures few { OnOk result (IsSmall (equal (term_at store.now.terms s.0) (term_at store.now.terms t.0))) }
 {
     let small = are_both_within(store, subst, s, t);
-    let nodes = 1 + term_size(store, s) + term_size(store, t);
-    let levels = 1 + term_depth(store, s).max(term_depth(store, t));
+    let nodes = 1 + store.size(s) + store.size(t);
+    let levels = 1 + store.depth(s).max(store.depth(t));
     check_limits(small, nodes, levels)
 }
 
-pub(crate) fn add_equation(
+fn add_equation(
     alloc: Global,
     store: &mut Store,
     subst: &SortSubst,
@@ -77,13 +78,16 @@ pub(crate) fn add_equation(
 ) -> Result<SentId, AllocError>
     requires left { s.0 < length store.old.terms }
     requires right { t.0 < length store.old.terms }
+    requires small { IsSmall (equal (term_at store.old.terms s.0) (term_at store.old.terms t.0)) }
     ensures grows { Grows store.old store.new }
     ensures tree { IfOk result (λ p. IsSent store.new p.0 (sent_under (image subst.now) (equal (term_at store.old.terms s.0) (term_at store.old.terms t.0)))) }
     ensures sorted { (sig : Signature) → IsSortedIn sig store.old → ((v : SVar) → is_valid_sort sig (image subst.now v) ≡ true) → apply_to (image subst.now) (sort_at store.old.sorts s.0) ≡ apply_to (image subst.now) (sort_at store.old.sorts t.0) → IsSortedIn sig store.new }
 {
+    let nodes = 1 + store.size(s) + store.size(t);
+    let levels = 1 + store.depth(s).max(store.depth(t));
     let left = term_under(alloc, store, subst, s)?;
     let right = term_under(alloc, store, subst, t)?;
-    let sent = store.add_sent(SentNode::Eq(left, right))?;
+    let sent = store.add_sent(SentNode::Eq(left, right), nodes, levels)?;
     Ok(sent)
 }
 
@@ -92,11 +96,9 @@ impl Store {
     pub fn equation(&mut self, alloc: Global, s: TermId, t: TermId) -> Result<SentId, BuildError>
         requires left { s.0 < length self.old.terms }
         requires right { t.0 < length self.old.terms }
-        requires left_small { IsSmall (atom (term_at self.old.terms s.0)) }
-        requires right_small { IsSmall (atom (term_at self.old.terms t.0)) }
         ensures grows { Grows self.old self.new }
         ensures inside { IfOk result (λ r. r.0 < length self.new.sents) }
-        ensures built { (sig : Signature) → IsSortedIn sig self.old → MatchSent sig self.new (equation_plan sig (term_at self.old.terms s.0) (term_at self.old.terms t.0)) result }
+        ensures built { (sig : Signature) → IsSortedIn sig self.old → IsSentBuilt self.new (made_equation sig (term_at self.old.terms s.0) (term_at self.old.terms t.0)) result }
         ensures sorted { (sig : Signature) → IsSortedIn sig self.old → IsSortedIn sig self.new }
     {
         let pairs = equation_pairs(alloc, self, s, t)?;

@@ -1,6 +1,6 @@
 // The limits on what is built.
 
-ghost use Rattle.ath_terms.specs.Construction.{MatchMeasured};
+ghost use Rattle.ath_terms.specs.Steps.{MatchMeasured};
 
 use crate::measure::BuildError;
 use ath_trees::{MOST_TERM_LEVELS, MOST_TERM_NODES};

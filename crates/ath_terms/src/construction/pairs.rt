@@ -3,7 +3,8 @@
 ghost use Rattle.std.specs.Prelude.{◌≡◌, ◌++◌, ◌∷◌, [], ◌<◌, length, find, OnOk, IfOk};
 ghost use Rattle.std.specs.Option.{option_copied};
 ghost use Rattle.ath_trees.specs.Variables.{is_namesake};
-ghost use Rattle.ath_terms.specs.Construction.{pair_after, variable_pairs, IsClashAt, MatchSolved};
+ghost use Rattle.ath_terms.specs.Construction.{pair_after, variable_pairs};
+ghost use Rattle.ath_terms.specs.Steps.{IsClashAt, MatchSolved};
 
 use crate::construction::variables::is_namesake;
 use crate::measure::BuildError;

@@ -1,21 +1,23 @@
 // Plain building: a node as it is asked for, where its tree is within the limits. No sort is unified.
 
-ghost use Rattle.std.specs.Prelude.{◌≡◌, ◌<◌, ◌≤◌, length, map, IfOk};
+ghost use Rattle.std.specs.Prelude.{◌≡◌, ◌<◌, ◌≤◌, true, length, map, IfOk, OnErr};
 ghost use Rattle.std.specs.List.{All};
-ghost use Rattle.ath_sorts.specs.Signature.{Signature};
+ghost use Rattle.ath_sorts.specs.Signature.{Signature, boolean};
 ghost use Rattle.ath_trees.specs.Tree.{atom, var, app, listed};
-ghost use Rattle.ath_terms.specs.Trees.{term_at, Grows, IsTermOf};
-ghost use Rattle.ath_trees.specs.Measure.{IsSmall, sent_size, sent_depth};
+ghost use Rattle.ath_terms.specs.Trees.{term_at, sort_at, Grows, IsTermOf, IsSent};
+ghost use Rattle.ath_trees.specs.Measure.{sent_size, sent_depth};
 ghost use Rattle.ath_terms.specs.Measure.{IsBuilt};
 ghost use Rattle.ath_terms.specs.Nodes.{sent_tree, IsSentBelow};
 ghost use Rattle.ath_terms.specs.SortsIn.{IsSortedIn};
 ghost use Rattle.ath_trees.specs.WellSorted.{HasSort, IsWellSorted};
-ghost use Rattle.ath_terms.specs.Plain.{IsPlainTerm, HasSmallParts};
+ghost use Rattle.ath_terms.specs.Kept.{IsFree, IsListed};
+ghost use Rattle.ath_terms.specs.Plain.{IsPlainTerm};
+ghost use Rattle.ath_trees.specs.Under.{has_no_binder};
 
 use crate::construction::application::{list_depth, list_size};
 use crate::construction::limits::check_limits;
 use crate::construction::variables::copied_var;
-use crate::measure::{BuildError, sent_depth, sent_size, term_depth, term_size};
+use crate::measure::BuildError;
 use crate::node::{SentNode, TermNode};
 use crate::store::Store;
 use ath_sorts::sorts::copied;
@@ -42,57 +44,78 @@ fn add_plain(
     args: &[TermId],
     sort: &Sort,
 ) -> Result<TermId, AllocError>
-    requires { All (λ i. i.0 < length store.old.terms) args.now }
+    requires few { length args.now ≤ 4194304 }
+    requires inside { All (λ i. i.0 < length store.old.terms) args.now }
+    requires small { IsListed (listed (map (λ i. term_at store.old.terms i.0) args.now)) }
     ensures grows { Grows store.old store.new }
     ensures tree { IfOk result (λ t. IsTermOf store.new t.0 (app f sorts.now (listed (map (λ i. term_at store.old.terms i.0) args.now))) sort.now) }
     ensures sorted { (sig : Signature) → IsSortedIn sig store.old → HasSort sig (app f sorts.now (listed (map (λ i. term_at store.old.terms i.0) args.now))) sort.now → IsSortedIn sig store.new }
 {
+    let nodes = 1 + list_size(store, args);
+    let levels = 1 + list_depth(store, args);
     let copies = copied_sorts(alloc, sorts)?;
     let ids = Items::from_slice(alloc, args)?;
     let whole = copied(alloc, sort)?;
-    let term = store.add_term(TermNode::App(f, copies, ids), whole)?;
+    let term = store.add_term(TermNode::App(f, copies, ids), whole, nodes, levels)?;
     Ok(term)
 }
 
 /// The nodes of the tree of a node.
 fn node_size(store: &Store, node: &SentNode) -> u64
-    requires below { IsSentBelow (length store.now.terms) (length store.now.sents) node.now }
-    requires small { HasSmallParts store.now node.now }
+    requires { IsSentBelow (length store.now.terms) (length store.now.sents) node.now }
     ensures { result ≡ sent_size (sent_tree store.now.terms store.now.sents node.now) }
 {
     match node {
-        SentNode::Atom(t) => term_size(store, *t),
-        SentNode::Eq(s, t) => 1 + term_size(store, *s) + term_size(store, *t),
+        SentNode::Atom(t) => store.size(*t),
+        SentNode::Eq(s, t) => 1 + store.size(*s) + store.size(*t),
         SentNode::Conn(_, ids) => {
             let parts = ids.as_slice();
             let mut nodes: u64 = 1;
             for i in 0..parts.len() {
-                nodes += sent_size(store, parts[i]);
+                nodes += store.sent_size(parts[i]);
             }
             nodes
         }
-        SentNode::Quant(_, _, body) => 1 + sent_size(store, *body),
+        SentNode::Quant(_, _, body) => 1 + store.sent_size(*body),
     }
 }
 
 /// The levels of the tree of a node.
 fn node_depth(store: &Store, node: &SentNode) -> u64
-    requires below { IsSentBelow (length store.now.terms) (length store.now.sents) node.now }
-    requires small { HasSmallParts store.now node.now }
+    requires { IsSentBelow (length store.now.terms) (length store.now.sents) node.now }
     ensures { result ≡ sent_depth (sent_tree store.now.terms store.now.sents node.now) }
 {
     match node {
-        SentNode::Atom(t) => term_depth(store, *t),
-        SentNode::Eq(s, t) => 1 + term_depth(store, *s).max(term_depth(store, *t)),
+        SentNode::Atom(t) => store.depth(*t),
+        SentNode::Eq(s, t) => 1 + store.depth(*s).max(store.depth(*t)),
         SentNode::Conn(_, ids) => {
             let parts = ids.as_slice();
             let mut levels: u64 = 0;
             for i in 0..parts.len() {
-                levels = levels.max(sent_depth(store, parts[i]));
+                levels = levels.max(store.sent_depth(parts[i]));
             }
             1 + levels
         }
-        SentNode::Quant(_, _, body) => 1 + sent_depth(store, *body),
+        SentNode::Quant(_, _, body) => 1 + store.sent_depth(*body),
+    }
+}
+
+/// The tree of a node has no quantifier. Its parts are looked at, and nothing is done.
+fn look_at_parts(store: &Store, node: &SentNode)
+    requires below { IsSentBelow (length store.now.terms) (length store.now.sents) node.now }
+    requires free { IsFree node.now }
+    ensures { has_no_binder (sent_tree store.now.terms store.now.sents node.now) ≡ true }
+{
+    match node {
+        SentNode::Atom(_) => {}
+        SentNode::Eq(_, _) => {}
+        SentNode::Conn(_, ids) => {
+            let parts = ids.as_slice();
+            for i in 0..parts.len() {
+                store.sent_size(parts[i]);
+            }
+        }
+        SentNode::Quant(_, _, _) => {}
     }
 }
 
@@ -122,7 +145,7 @@ impl Store {
     {
         let copy = copied_var(alloc, v)?;
         let sort = copied(alloc, &v.sort)?;
-        let term = self.add_term(TermNode::Var(copy), sort)?;
+        let term = self.add_term(TermNode::Var(copy), sort, 1, 1)?;
         Ok(term)
     }
 
@@ -137,22 +160,36 @@ impl Store {
     ) -> Result<TermId, BuildError>
         requires few { length args.now.items ≤ 4194304 }
         requires inside { All (λ i. i.0 < length self.old.terms) args.now.items }
-        requires small { All (λ i. IsSmall (atom (term_at self.old.terms i.0))) args.now.items }
         ensures grows { Grows self.old self.new }
         ensures built { IsPlainTerm self.new (app f sorts.now.items (listed (map (λ i. term_at self.old.terms i.0) args.now.items))) sort.now result }
         ensures sorted { (sig : Signature) → IsSortedIn sig self.old → HasSort sig (app f sorts.now.items (listed (map (λ i. term_at self.old.terms i.0) args.now.items))) sort.now → IsSortedIn sig self.new }
     {
-        let nodes = 1 + list_size(self, args.as_slice());
-        let levels = 1 + list_depth(self, args.as_slice());
+        let parts = args.as_slice();
+        let nodes = 1 + list_size(self, parts);
+        let levels = 1 + list_depth(self, parts);
         check_limits(true, nodes, levels)?;
-        let term = add_plain(alloc, self, f, sorts.as_slice(), args.as_slice(), sort)?;
+        let term = add_plain(alloc, self, f, sorts.as_slice(), parts, sort)?;
         Ok(term)
     }
 
-    /// The sentence of a node.
+    /// The atom of a term of sort Boolean, as it is.
+    pub fn plain_atom(&mut self, t: TermId) -> Result<SentId, AllocError>
+        requires { t.0 < length self.old.terms }
+        ensures grows { Grows self.old self.new }
+        ensures tree { IfOk result (λ p. IsSent self.new p.0 (atom (term_at self.old.terms t.0))) }
+        ensures sorted { IfOk result (λ p. (sig : Signature) → IsSortedIn sig self.old → sort_at self.old.sorts t.0 ≡ boolean → IsSortedIn sig self.new) }
+        ensures err { OnErr result (self.new ≡ self.old) }
+    {
+        let nodes = self.size(t);
+        let levels = self.depth(t);
+        let sent = self.add_sent(SentNode::Atom(t), nodes, levels)?;
+        Ok(sent)
+    }
+
+    /// The sentence of a node that is no quantifier.
     pub fn raw_sent(&mut self, alloc: Global, node: &SentNode) -> Result<SentId, BuildError>
         requires below { IsSentBelow (length self.old.terms) (length self.old.sents) node.now }
-        requires small { HasSmallParts self.old node.now }
+        requires free { IsFree node.now }
         ensures grows { Grows self.old self.new }
         ensures built { IsBuilt self.new result (sent_tree self.old.terms self.old.sents node.now) }
         ensures sorted { (sig : Signature) → IsSortedIn sig self.old → IsWellSorted sig (sent_tree self.old.terms self.old.sents node.now) → IsSortedIn sig self.new }
@@ -160,8 +197,9 @@ impl Store {
         let nodes = node_size(self, node);
         let levels = node_depth(self, node);
         check_limits(true, nodes, levels)?;
+        look_at_parts(self, node);
         let copy = copied_node(alloc, node)?;
-        let sent = self.add_sent(copy)?;
+        let sent = self.add_sent(copy, nodes, levels)?;
         Ok(sent)
     }
 }

@@ -6,19 +6,19 @@ ghost use Rattle.ath_sorts.specs.Sorts.{image, apply_to};
 ghost use Rattle.ath_sorts.specs.declared.sorts.SVar.{SVar};
 ghost use Rattle.ath_trees.specs.Tree.{atom};
 ghost use Rattle.ath_terms.specs.Trees.{term_at, sort_at, Grows, IsSent};
-ghost use Rattle.ath_trees.specs.Measure.{IsSmall};
 ghost use Rattle.ath_terms.specs.SortsIn.{IsSortedIn};
 ghost use Rattle.ath_trees.specs.Variables.{with_term};
 ghost use Rattle.ath_trees.specs.Under.{term_under, sent_under};
 ghost use Rattle.ath_trees.specs.WellSorted.{is_valid_sort};
-ghost use Rattle.ath_terms.specs.Construction.{variable_pairs, term_measure, ascription_plan, IsClashAt, MatchMeasured, MatchTerm, MatchAtom, MatchBoolean};
+ghost use Rattle.ath_terms.specs.Construction.{variable_pairs, term_measure, made_ascription, made_atom};
+ghost use Rattle.ath_terms.specs.Answers.{IsTermBuilt, IsSentBuilt};
+ghost use Rattle.ath_terms.specs.Steps.{MatchMeasured, MatchBoolean};
 
 use crate::construction::apply::{is_term_within, term_under};
 use crate::construction::limits::check_limits;
 use crate::construction::pairs::{add_pair, add_variable_pairs, clash, solve};
 use crate::construction::variables::add_term_vars;
-use crate::measure::{BuildError, term_depth, term_size};
-use crate::node::SentNode;
+use crate::measure::BuildError;
 use crate::store::Store;
 use ath_sorts::sorts::BOOLEAN;
 use ath_sorts::{Sort, SortSubst, UnifyError, unify};
@@ -50,13 +50,12 @@ fn boolean_sort(alloc: Global) -> Sort
 }
 
 fn check_term(store: &Store, subst: &SortSubst, t: TermId) -> Result<(), BuildError>
-    requires inside { t.0 < length store.now.terms }
-    requires small { IsSmall (atom (term_at store.now.terms t.0)) }
+    requires { t.0 < length store.now.terms }
     ensures { (sig : Signature) → IsSortedIn sig store.now → MatchMeasured (term_measure sig (term_under (image subst.now) (term_at store.now.terms t.0))) result }
 {
     let small = is_term_within(store, subst, t);
-    let nodes = term_size(store, t);
-    let levels = term_depth(store, t);
+    let nodes = store.size(t);
+    let levels = store.depth(t);
     check_limits(small, nodes, levels)
 }
 
@@ -90,18 +89,17 @@ pub(crate) fn add_atom(
     ensures sorted { (sig : Signature) → IsSortedIn sig store.old → ((v : SVar) → is_valid_sort sig (image subst.now v) ≡ true) → apply_to (image subst.now) (sort_at store.old.sorts t.0) ≡ boolean → IsSortedIn sig store.new }
 {
     let term = term_under(alloc, store, subst, t)?;
-    let sent = store.add_sent(SentNode::Atom(term))?;
+    let sent = store.plain_atom(term)?;
     Ok(sent)
 }
 
 impl Store {
     /// The term with its sort made the other.
     pub fn ascribe(&mut self, alloc: Global, t: TermId, sort: &Sort) -> Result<TermId, BuildError>
-        requires inside { t.0 < length self.old.terms }
-        requires small { IsSmall (atom (term_at self.old.terms t.0)) }
+        requires { t.0 < length self.old.terms }
         ensures grows { Grows self.old self.new }
         ensures inside { IfOk result (λ r. r.0 < length self.new.terms) }
-        ensures built { (sig : Signature) → IsSortedIn sig self.old → MatchTerm sig self.new (ascription_plan sig (term_at self.old.terms t.0) sort.now) result }
+        ensures built { (sig : Signature) → IsSortedIn sig self.old → IsTermBuilt sig self.new (made_ascription sig (term_at self.old.terms t.0) sort.now) result }
         ensures sorted { (sig : Signature) → IsSortedIn sig self.old → is_valid_sort sig sort.now ≡ true → IsSortedIn sig self.new }
     {
         let pairs = term_pairs(alloc, self, t, sort)?;
@@ -113,11 +111,10 @@ impl Store {
 
     /// The atom of a term, whose sort is made Boolean.
     pub fn atom(&mut self, alloc: Global, t: TermId) -> Result<SentId, BuildError>
-        requires inside { t.0 < length self.old.terms }
-        requires small { IsSmall (atom (term_at self.old.terms t.0)) }
+        requires { t.0 < length self.old.terms }
         ensures grows { Grows self.old self.new }
         ensures inside { IfOk result (λ r. r.0 < length self.new.sents) }
-        ensures built { (sig : Signature) → IsSortedIn sig self.old → MatchAtom sig self.new t (term_at self.old.terms t.0) result }
+        ensures built { (sig : Signature) → IsSortedIn sig self.old → IsSentBuilt self.new (made_atom sig (term_at self.old.terms t.0)) result }
         ensures sorted { (sig : Signature) → IsSortedIn sig self.old → IsSortedIn sig self.new }
     {
         let boolean = boolean_sort(alloc);

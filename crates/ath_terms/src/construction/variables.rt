@@ -2,7 +2,7 @@
 
 ghost use Rattle.std.specs.Prelude.{◌≡◌, ◌<◌, length, filter, not, IfOk, OnOk, if◌then◌else◌};
 ghost use Rattle.std.specs.List.{list_any};
-ghost use Rattle.ath_sorts.specs.Unifiers.{same_sort};
+ghost use Rattle.ath_sorts.specs.Order.{same_sort};
 ghost use Rattle.ath_terms.specs.Trees.{term_at, sent_at};
 ghost use Rattle.ath_trees.specs.Variables.{is_namesake, same_var, with_var, with_vars, with_term, with_sent, term_vars, free_vars};
 

@@ -1,6 +1,7 @@
 use Rattle.std.proofs.Common.{◌≡◌, ◌<◌, length, get_or, Err, sym, subst, ◌∙◌, arith, rules}
 use Rattle.std.proofs.lemmas.Grind.{common_steps}
 use Rattle.ath_sorts.specs.Declaring.{symbol_fault}
+use Rattle.ath_declarations.specs.declared.declaring.DeclareError.TheVariants.{Flawed}
 use Rattle.ath_declarations.specs.Declarations.{joined}
 use Rattle.ath_declarations.proofs.Joins.{Tells, tested, first_refused, test_refused}
 use Rattle.ath_declarations.proofs.declaring.check_names.Goals as goal
@@ -10,7 +11,7 @@ returns-in_err-check_symbol c =
     let some : 0 < length c.args.names.now = grind (arith, common_steps) in
     let p = c.deref.ensures.value in
     let q = c.deref-2.ensures.value in
-    let r : c.from_residual.result ≡ Err c.in_err-check_symbol.field-0.0 = search rules in
+    let r : c.from_residual.result ≡ Err (Flawed c.in_err-check_symbol.field-0.0) = search rules in
     test_refused _ _ _ r (first_refused c.args.shape.now.params.items c.args.shape.now.args.items c.args.shape.now.result c.args.sig.now c.args.names.now (record { 0 = 0 }) c.in_err-check_symbol.field-0.0 some
     (sym (λ i. symbol_fault c.args.sig.now (get_or c.args.names.now 0 (record { 0 = 0 })) (p i) (q i) c.args.shape.now.result) ∙ c.in_err-check_symbol.ensures))
 

@@ -1,17 +1,11 @@
 use Rattle.std.proofs.Common.{length, map}
 use Rattle.ath_eval.specs.Applying.{sentences_made}
 use Rattle.ath_eval.specs.Arguments.{piece_tree}
-use Rattle.ath_eval.proofs.ConnectiveLaws.{sents_inside, sents_small, sents_free, connective_made, connective_refused}
+use Rattle.ath_eval.proofs.ConnectiveLaws.{sents_inside, connective_made, connective_refused}
 use Rattle.ath_eval.proofs.connectives.connect.Goals as goal
 
 pub connective-made-requires-clause-inside : goal.connective-made-requires-clause-inside
 connective-made-requires-clause-inside c = let q = c.requires.sorted in sents_inside c.sentences.new.store c.in-Ok.ids.items (c.in-Ok.ensures.built q.0 q.1).1
-
-pub connective-made-requires-clause-small : goal.connective-made-requires-clause-small
-connective-made-requires-clause-small c = let q = c.requires.sorted in sents_small c.sentences.new.store c.in-Ok.ids.items (c.in-Ok.ensures.built q.0 q.1).1
-
-pub connective-made-requires-clause-free : goal.connective-made-requires-clause-free
-connective-made-requires-clause-free c = let q = c.requires.sorted in sents_free c.sentences.new.store c.in-Ok.ids.items (c.in-Ok.ensures.built q.0 q.1).1
 
 pub returns-in_ok-outcome-in-Ok-clause-outcome : goal.returns-in_ok-outcome-in-Ok-clause-outcome
 returns-in_ok-outcome-in-Ok-clause-outcome c = λ sig h. let a = c.args in let k = c.in-Ok in let t = c.sentences.new.store in let u = c.connective-made.new.self in

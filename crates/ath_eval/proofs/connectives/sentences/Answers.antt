@@ -5,7 +5,7 @@ use Rattle.ath_sorts.specs.Signature.{Signature}
 use Rattle.ath_terms.specs.SortsIn.{IsSortedIn}
 use Rattle.ath_eval.specs.Applying.{sentences_made}
 use Rattle.ath_eval.specs.Arguments.{piece_tree}
-use Rattle.ath_eval.specs.Building.{IsSentIn}
+use Rattle.ath_eval.specs.Stands.{IsSentIn}
 use Rattle.ath_eval.proofs.ConnectiveLaws.{front_none, good_piece_grows, sents_in_grow, part_next, part_refused, parts_done, pushed_items, length_push}
 use Rattle.ath_eval.proofs.connectives.sentences.Goals as goal
 

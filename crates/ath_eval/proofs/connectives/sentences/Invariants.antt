@@ -5,7 +5,7 @@ use Rattle.ath_terms.specs.SortsIn.{IsSortedIn}
 use Rattle.ath_terms.specs.Trees.{Grows}
 use Rattle.ath_eval.specs.Applying.{sentences_made}
 use Rattle.ath_eval.specs.Arguments.{piece_tree}
-use Rattle.ath_eval.specs.Building.{IsSentIn}
+use Rattle.ath_eval.specs.Stands.{IsSentIn}
 use Rattle.ath_eval.proofs.ConnectiveLaws.{with_front, trees_of}
 use Rattle.ath_eval.proofs.connectives.sentences.Given as goal
 

@@ -3,6 +3,7 @@ use Rattle.ath_terms.proofs.Grow.{grows-none}
 use Rattle.ath_env.specs.LookUp.{looked_up}
 use Rattle.ath_eval.specs.Evaluation.{found, variable, unbuilt}
 use Rattle.ath_eval.specs.declared.frame.Frame.TheVariants.{Head, Ascription}
+use Rattle.ath_eval.specs.Outcomes.{left_of}
 use Rattle.ath_eval.specs.Settings.{reading}
 use Rattle.ath_eval.proofs.Stretches.{steps_done, steps_push, form_named, form_varied, form_ascribed, form_applied, form_called, form_unbuilt}
 use Rattle.ath_eval.proofs.machine.enter_form.Goals as goal
@@ -10,7 +11,7 @@ use Rattle.ath_eval.proofs.machine.enter_form.Goals as goal
 pub returns-in_ok-outcome-in-Name-clause-steps : goal.returns-in_ok-outcome-in-Name-clause-steps
 returns-in_ok-outcome-in-Name-clause-steps c = λ fuel. let a = c.args in let s = a.store.now in let nodes = a.set.now.phrases.now in let r = reading a.set.now s in let n = c.node-node.result.now in let o = c.in_ok-outcome-in-Name in let fs = a.stack.now.items in
     steps_done r nodes s _ _ c.find.new.store fuel c.find.new.fresh o.outcome fs o.ensures.grows (omega arith)
-    (λ out m. (found r c.in-Name.name n.pos (looked_up r.names r.signature c.in-Name.name) fuel a.fresh.now, o.ensures.outcome r refl fuel, form_named r nodes s a.fresh.now a.phrase fs out n c.node-node.ensures.node a.levels fuel c.in-Name.name c.in-Name.is m))
+    (λ out m. (found r.context c.in-Name.name n.pos (looked_up r.context.names r.context.theory.signature c.in-Name.name) (left_of fuel a.fresh.now), o.ensures.outcome r.context refl fuel, form_named r nodes s a.fresh.now a.phrase fs out n c.node-node.ensures.node a.levels fuel c.in-Name.name c.in-Name.is m))
 
 pub returns-in_ok-push-in-Apply-clause-steps : goal.returns-in_ok-push-in-Apply-clause-steps
 returns-in_ok-push-in-Apply-clause-steps c = λ fuel. let a = c.args in let s = a.store.now in let nodes = a.set.now.phrases.now in let r = reading a.set.now s in let n = c.node-node.result.now in let k = c.in-Apply in let fs = a.stack.now.items in
@@ -25,7 +26,7 @@ returns-in_ok-push-in-Call-clause-steps c = λ fuel. let a = c.args in let s = a
 pub returns-in_ok-outcome-in-Var-clause-steps : goal.returns-in_ok-outcome-in-Var-clause-steps
 returns-in_ok-outcome-in-Var-clause-steps c = λ fuel. let a = c.args in let s = a.store.now in let nodes = a.set.now.phrases.now in let r = reading a.set.now s in let n = c.node-node.result.now in let o = c.in_ok-outcome-in-Var in let fs = a.stack.now.items in let k = c.in-Var in
     steps_done r nodes s _ _ c.variable.new.store fuel c.variable.new.fresh o.outcome fs o.ensures.grows (omega arith)
-    (λ out m. (variable r k.name k.index k.text n.pos fuel a.fresh.now, o.ensures.outcome r refl fuel, form_varied r nodes s a.fresh.now a.phrase fs out n c.node-node.ensures.node a.levels fuel k.name k.index k.text k.is m))
+    (λ out m. (variable r.context k.name k.index k.text n.pos (left_of fuel a.fresh.now), o.ensures.outcome r.context refl fuel, form_varied r nodes s a.fresh.now a.phrase fs out n c.node-node.ensures.node a.levels fuel k.name k.index k.text k.is m))
 
 pub returns-in_ok-push-in-Ascribe-clause-steps : goal.returns-in_ok-push-in-Ascribe-clause-steps
 returns-in_ok-push-in-Ascribe-clause-steps c = λ fuel. let a = c.args in let s = a.store.now in let nodes = a.set.now.phrases.now in let r = reading a.set.now s in let n = c.node-node.result.now in let k = c.in-Ascribe in let fs = a.stack.now.items in
@@ -36,7 +37,7 @@ pub returns-in_default : goal.returns-in_default
 returns-in_default c = let a = c.args in let s = a.store.now in let nodes = a.set.now.phrases.now in let r = reading a.set.now s in let n = c.node-node.result.now in let fs = a.stack.now.items in record {
   grows = grows-none s;
   sorted = c.requires.sorted;
-  room = omega arith;
+  room = (omega arith, omega arith);
   steps = λ fuel. steps_done r nodes s _ _ s fuel a.fresh.now c.bare.result fs (grows-none s) (omega arith)
-      (λ out m. (unbuilt n.pos fuel a.fresh.now, c.bare.ensures s a.fresh.now fuel, form_unbuilt r nodes s a.fresh.now a.phrase fs out n c.node-node.ensures.node a.levels fuel c.in_default.not-Name c.in_default.not-Var c.in_default.not-Ascribe c.in_default.not-Apply c.in_default.not-Call m));
+      (λ out m. (unbuilt n.pos (left_of fuel a.fresh.now), c.bare.ensures s a.fresh.now fuel, form_unbuilt r nodes s a.fresh.now a.phrase fs out n c.node-node.ensures.node a.levels fuel c.in_default.not-Name c.in_default.not-Var c.in_default.not-Ascribe c.in_default.not-Apply c.in_default.not-Call m));
 }

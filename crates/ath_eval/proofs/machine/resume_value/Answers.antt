@@ -1,6 +1,7 @@
 use Rattle.std.proofs.Common.{refl, arith}
-use Rattle.ath_env.specs.Values.{value_at}
+use Rattle.ath_env.specs.Stands.{value_at}
 use Rattle.ath_eval.specs.Evaluation.{ascribed}
+use Rattle.ath_eval.specs.Outcomes.{left_of}
 use Rattle.ath_eval.specs.Settings.{reading}
 use Rattle.ath_eval.proofs.Resuming.{head_gets, argument_gets, ascription_gets}
 use Rattle.ath_eval.proofs.Stretches.{steps_after, steps_done}
@@ -37,4 +38,4 @@ pub returns-in_ok-outcome-in-Ascription-clause-steps : goal.returns-in_ok-outcom
 returns-in_ok-outcome-in-Ascription-clause-steps c = λ fuel. let a = c.args in let s = a.store.now in let nodes = a.set.now.phrases.now in let r = reading a.set.now s in let k = c.in-Ascription in let o = c.in_ok-outcome-in-Ascription in let fs = a.stack.now.items in
     steps_done r nodes s _ _ c.ascribed.new.store fuel a.fresh.now o.outcome fs o.ensures.grows (omega arith)
     (λ out m. let g = ascription_gets r nodes s fuel a.fresh.now fs out a.value k.phrase (rw k.is at m) in
-    (ascribed r g.2 (value_at s a.value) g.0 fuel a.fresh.now, o.ensures.outcome r g.0 g.1 g.2 refl g.3 a.fresh.now fuel, g.5))
+    (ascribed r.context g.2 (value_at s a.value) g.0 (left_of fuel a.fresh.now), o.ensures.outcome r.context g.0 g.1 g.2 refl g.3 a.fresh.now fuel, g.5))

@@ -2,7 +2,7 @@
 use Rattle.std.proofs.Common.{Option, Ok, subst}
 use Rattle.ath_syntax.specs.declared.directive.Directive.{Directive}
 use Rattle.ath_names.proofs.NamesLaws.{Grows-trans}
-use Rattle.ath_reader.specs.Reading.{Answers}
+use Rattle.ath_reader.specs.Answering.{Answers}
 use Rattle.ath_reader.proofs.Growth.{answers_stand}
 use Rattle.ath_reader.proofs.tests.show_next.Goals as goal
 

@@ -1,6 +1,4 @@
-use Rattle.std.proofs.Common.{◌∙◌, sym, ap, ◌++◌, ◌≤◌, length, arith}
-use Rattle.std.proofs.lemmas.List.{take_all}
-use Rattle.std.specs.List.{zip}
+use Rattle.std.proofs.Common.{◌∙◌}
 use Rattle.ath_sorts.proofs.GraphUnions.{pairs_turn}
 use Rattle.ath_sorts.proofs.graph.add_pairs.Goals as goal
 

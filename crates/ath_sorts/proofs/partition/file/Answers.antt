@@ -1,4 +1,4 @@
-use Rattle.std.proofs.Common.{◌≤◌, length, arith, subst, take, List, ℕ}
+use Rattle.std.proofs.Common.{subst, List, ℕ}
 use Rattle.std.proofs.lemmas.List.{take_all}
 use Rattle.ath_sorts.proofs.Partitions.{Filed, filed_none, filed_turn, filed_all}
 use Rattle.ath_sorts.proofs.partition.file.Goals as goal

@@ -1,4 +1,4 @@
-use Rattle.std.proofs.Common.{◌≡◌, ◌∙◌, sym, ◌+◌, ◌-◌, ◌/◌, ◌<◌, ◌≤◌, take, length, subst, arith}
+use Rattle.std.proofs.Common.{◌≡◌, ◌∙◌, sym, ◌+◌, ◌-◌, ◌/◌, take, length, subst, arith}
 use Rattle.std.proofs.lemmas.List.{take_all}
 use Rattle.ath_sorts.specs.declared.sorts.Sort.{Var}
 use Rattle.ath_sorts.specs.Unifiers.{HasUnifier}

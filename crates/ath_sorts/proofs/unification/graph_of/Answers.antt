@@ -1,7 +1,7 @@
-use Rattle.std.proofs.Common.{◌∙◌, sym, ap, ◌++◌, ◌∷◌, [], ◌+◌, ◌<◌, ◌≤◌, take, length, subst, arith, List}
+use Rattle.std.proofs.Common.{◌∙◌, sym, ap, ◌++◌, ◌∷◌, [], ◌+◌, ◌<◌, take, length, subst, arith}
 use Rattle.std.proofs.lemmas.List.{take_more}
 use Rattle.ath_sorts.specs.declared.sorts.Sort.{Sort}
-use Rattle.ath_sorts.specs.Graphs.{MatchEquated, Stands}
+use Rattle.ath_sorts.specs.Graphs.{Stands}
 use Rattle.ath_sorts.specs.Unifiers.{HasUnifier}
 use Rattle.ath_sorts.proofs.GraphPairs.{none_with_more, stands_when, none_equated, none_cyclic}
 use Rattle.ath_sorts.proofs.unification.graph_of.Goals as goal

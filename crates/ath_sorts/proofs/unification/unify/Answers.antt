@@ -1,4 +1,4 @@
-use Rattle.std.proofs.Common.{sym, ◌∙◌, ap, subst, List, ◌≤◌, length, arith}
+use Rattle.std.proofs.Common.{subst, List, length, arith}
 use Rattle.ath_sorts.specs.declared.sorts.Sort.{Sort}
 use Rattle.ath_sorts.specs.Unifiers.{IsClash}
 use Rattle.ath_sorts.proofs.GraphPairs.{none_found, solves_found}

@@ -1,5 +1,6 @@
 use Rattle.std.proofs.Common.{Ok, Err, subst}
-use Rattle.ath_reader.specs.Reading.{Reading, Answers}
+use Rattle.ath_reader.specs.Reading.{Reading}
+use Rattle.ath_reader.specs.Answering.{Answers}
 use Rattle.ath_reader.proofs.Viewed.{read_view, none_of, reader_ok}
 use Rattle.ath_reader.proofs.Growth.{numbers_names, numbers_phrases}
 use Rattle.ath_reader.proofs.reader.Reader.directive.Goals as goal

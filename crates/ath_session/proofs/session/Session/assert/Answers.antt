@@ -12,7 +12,7 @@ returns-in-Theorem-clause-reply c =
 
 pub returns-in-Error-clause-reply : goal.returns-in-Error-clause-reply
 returns-in-Error-clause-reply c =
-    error_assertion c.args.self.now.world c.run.new.w c.run.ensures.world c.args.phrase c.in_ok-value.field-0 c.in_ok-value.ensures.outcome c.refuse.result c.in-Error.at c.in-Error.fault c.in-Error.is c.refuse.ensures
+    error_assertion c.args.self.now.world c.run.new.w c.run.ensures.world c.args.phrase c.in_ok-value.field-0 c.in_ok-value.ensures.outcome c.refusal.result c.in-Error.at c.in-Error.fault c.in-Error.is c.refusal.ensures
 
 pub returns-in-Exhausted-clause-reply : goal.returns-in-Exhausted-clause-reply
 returns-in-Exhausted-clause-reply c =

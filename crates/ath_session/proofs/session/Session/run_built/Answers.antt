@@ -1,4 +1,5 @@
 use Rattle.std.proofs.Common.{refl}
+use Rattle.ath_terms.proofs.Grow.{grows-none}
 use Rattle.ath_session.proofs.ReplyLaws.{domain_tells, declare_tells, assert_tells, load_tells, phrase_tells, other_tells}
 use Rattle.ath_session.proofs.session.Session.run_built.Goals as goal
 
@@ -26,7 +27,7 @@ returns-in-Phrase-clause-reply c =
 
 pub returns-in_default : goal.returns-in_default
 returns-in_default c = record {
-  text = record { names = refl; phrases = refl };
+  numbers = record { names = refl; phrases = refl; store = grows-none c.args.self.now.world.store };
   sorted = c.requires.sorted;
-  reply = other_tells c.args.self.now.world c.args.directive.now.what c.args.directive.now.pos c.refuse.result c.plain.result (λ n vs e. c.in_default.not-Domain n vs e) (λ ns ps os o e. c.in_default.not-Declare ns ps os o e) (λ n b i e. c.in_default.not-Assert n b i e) (λ b e. c.in_default.not-Load b e) (λ i e. c.in_default.not-Phrase i e) c.plain.ensures.kind c.plain.ensures.args c.refuse.ensures;
+  reply = other_tells c.args.self.now.world c.args.directive.now.what c.args.directive.now.pos c.refusal.result c.plain.result (λ n vs e. c.in_default.not-Domain n vs e) (λ ns ps os o e. c.in_default.not-Declare ns ps os o e) (λ n b i e. c.in_default.not-Assert n b i e) (λ b e. c.in_default.not-Load b e) (λ i e. c.in_default.not-Phrase i e) c.plain.ensures.kind c.plain.ensures.args c.refusal.ensures;
 }

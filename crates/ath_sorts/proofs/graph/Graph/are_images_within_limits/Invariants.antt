@@ -2,7 +2,7 @@ use Rattle.std.proofs.Common.{◌≡◌, ℕ, ◌<◌, slice_get, Some, IsTrue}
 use Rattle.ath_sorts.specs.declared.nodes.Node.TheVariants.{Leaf}
 use Rattle.ath_sorts.specs.declared.sorts.SVar.{SVar}
 use Rattle.ath_sorts.specs.declared.sorts.Sort.{Sort}
-use Rattle.ath_sorts.specs.Limits.{is_small}
+use Rattle.ath_sorts.specs.Sorts.{is_small}
 use Rattle.ath_sorts.specs.Graphs.{Grows}
 use Rattle.ath_sorts.proofs.graph.Graph.are_images_within_limits.Given as goal
 

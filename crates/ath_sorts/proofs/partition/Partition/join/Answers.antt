@@ -1,7 +1,5 @@
-use Rattle.std.proofs.Common.{◌∙◌, ◌≡◌, ◌<◌, sym, ap, subst, ℕ, List, ◌++◌, map, length, slice_get, slice_set, arith}
-use Rattle.ath_sorts.specs.declared.partition.Block.{Block}
-use Rattle.ath_sorts.specs.Partitions.{IsPartition, class_at, class_names, is_member, members_of, name_at, rename}
-use Rattle.ath_sorts.proofs.Gets.{length-map'}
+use Rattle.std.proofs.Common.{◌∙◌, sym, ap, subst, ℕ, List, ◌++◌, map, slice_set}
+use Rattle.ath_sorts.specs.Partitions.{IsPartition, class_at, class_names, is_member, rename}
 use Rattle.ath_sorts.proofs.PartitionJoins.{block_there, partition_grown, partition_joined, names_joined}
 use Rattle.ath_sorts.proofs.partition.Partition.join.Goals as goal
 

@@ -1,5 +1,5 @@
 use Rattle.std.proofs.Common.{◌∙◌, sym, subst, rules}
-use Rattle.ath_sorts.specs.Declaring.{IsFault}
+use Rattle.ath_sorts.specs.Answers.{IsFault}
 use Rattle.ath_sorts.proofs.SignatureLaws.{fault_in_args, fault_in_result, fault_large, fault_loose}
 use Rattle.ath_sorts.proofs.signature.Signature.check_symbol.Goals as goal
 

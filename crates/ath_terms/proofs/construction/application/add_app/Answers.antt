@@ -1,11 +1,18 @@
-use Rattle.std.proofs.Common.{◌∙◌}
+use Rattle.std.proofs.Common.{◌∙◌, ◌+◌, map, ap}
 use Rattle.ath_sorts.specs.Sorts.{image}
+use Rattle.ath_trees.specs.Tree.{listed}
+use Rattle.ath_terms.specs.Trees.{term_at}
+use Rattle.ath_terms.proofs.KeptLaws.{app-kept}
 use Rattle.ath_terms.proofs.StepLaws.{terms-below}
 use Rattle.ath_terms.proofs.ApplicationLaws.{app-tree, app-has}
 use Rattle.ath_terms.proofs.construction.application.add_app.Goals as goal
 
-pub add_term-requires : goal.add_term-requires
-add_term-requires c = terms-below c.terms_under.new.store c.in_ok-parts.parts _ c.in_ok-parts.ensures.trees
+pub add_term-requires-clause-below : goal.add_term-requires-clause-below
+add_term-requires-clause-below c = terms-below c.terms_under.new.store c.in_ok-parts.parts _ c.in_ok-parts.ensures.trees
+
+pub add_term-requires-clause-kept : goal.add_term-requires-clause-kept
+add_term-requires-clause-kept c = app-kept (image c.args.subst.now) c.args.name c.args.made.now (listed (map (λ i. term_at c.args.store.now.terms i.0) c.args.args.now)) _ _ _ (app-tree c.args.store.now c.terms_under.new.store (image c.args.subst.now) c.args.name c.args.made.now c.in_ok-images.images c.args.args.now c.in_ok-parts.parts c.in_ok-images.ensures c.in_ok-parts.ensures.trees)
+    (ap (λ k. 1 + k) c.list_size-nodes.ensures.same) (ap (λ k. 1 + k) c.list_depth-levels.ensures.same) c.requires.small
 
 pub returns-clause-tree : goal.returns-clause-tree
 returns-clause-tree c =

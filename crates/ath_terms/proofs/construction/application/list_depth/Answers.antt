@@ -4,8 +4,8 @@ use Rattle.ath_terms.proofs.construction.application.list_depth.Goals as goal
 
 pub loop-i-preserved : goal.loop-i-preserved
 loop-i-preserved c =
-    let s = (c.requires.small c.loop-i.i (record { 0 = 0 }) (omega arith)).levels in
-    let e = c.term_depth.ensures in
+    let s = c.depth.ensures.few in
+    let e = c.depth.ensures.same in
     let m = c.max-levels.ensures in
     let i = c.loop-i.invariant in
     (m ∙ ap (max c.loop-i.levels) e ∙ depths-next c.args.store.now.terms c.args.args.now c.loop-i.i (record { 0 = 0 }) c.loop-i.levels (omega arith) i.0, omega arith)

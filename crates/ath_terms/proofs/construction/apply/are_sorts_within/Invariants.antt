@@ -1,7 +1,6 @@
 use Rattle.std.proofs.Common.{◌≡◌, drop}
 use Rattle.std.specs.List.{list_all}
-use Rattle.ath_sorts.specs.Limits.{is_small}
-use Rattle.ath_sorts.specs.Sorts.{image, apply_to}
+use Rattle.ath_sorts.specs.Sorts.{is_small, image, apply_to}
 use Rattle.ath_terms.proofs.construction.apply.are_sorts_within.Given as goal
 
 abbrev pub invariant-loop-sort : goal.invariant-loop-sort

@@ -1,8 +1,16 @@
 use Rattle.std.proofs.Common.{◌≡◌, ◌+◌, ◌-◌, arith}
 use Rattle.ath_sorts.specs.Sorts.{image}
 use Rattle.ath_terms.proofs.Grow.{grows-then}
-use Rattle.ath_terms.proofs.GroupLaws.{group-built}
+use Rattle.ath_terms.proofs.GroupLaws.{group-built, group-joined}
+use Rattle.ath_terms.proofs.KeptLaws.{group-small}
 use Rattle.ath_terms.proofs.construction.connective.add_grouped.Goals as goal
+
+pub add_joined-requires-clause-small : goal.add_joined-requires-clause-small
+add_joined-requires-clause-small c =
+    let h = c.loop-i.invariant.inside in
+    let k : c.loop-i.i - 1 + 1 ≡ c.loop-i.i = let t = c.loop-i-test.true in omega arith in
+    group-small c.args.store.now.sents c.args.c (image c.args.subst.now) c.args.parts.now (c.loop-i.i - 1) _ (omega arith) c.requires.small
+    (group-joined c.args.store.now c.loop-i.store c.sent_under-in-loop-i.new.store (image c.args.subst.now) c.args.c c.args.parts.now c.loop-i.i (c.loop-i.i - 1) (record { 0 = 0 }) c.in_ok-left.left.0 c.loop-i.sent.0 c.requires.inside h k c.loop-i.invariant.grows c.in_ok-left.ensures.grows c.loop-i.invariant.tree c.in_ok-left.ensures.tree)
 
 pub loop-i-preserved : goal.loop-i-preserved
 loop-i-preserved c =

@@ -3,4 +3,4 @@ use Rattle.ath_terms.proofs.TermLaws.{term-measured}
 use Rattle.ath_terms.proofs.construction.term.check_term.Goals as goal
 
 pub returns : goal.returns
-returns c = λ sig h. term-measured sig c.args.store.now (image c.args.subst.now) c.args.t.0 c.is_term_within-small.result c.term_size-nodes.result c.term_depth-levels.result _ (c.is_term_within-small.ensures sig h) c.term_size-nodes.ensures c.term_depth-levels.ensures c.check_limits.ensures
+returns c = λ sig h. term-measured sig c.args.store.now (image c.args.subst.now) c.args.t.0 c.is_term_within-small.result c.size-nodes.result c.depth-levels.result _ (c.is_term_within-small.ensures sig h) c.size-nodes.ensures.same c.depth-levels.ensures.same c.check_limits.ensures

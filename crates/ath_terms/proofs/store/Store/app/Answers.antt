@@ -13,7 +13,7 @@ returns-clause-built c = λ h d e.
     let g = c.len.ensures in
     let k = trees-counted c.args.self.now c.args.args.now.items in
     let l : length s.args ≡ length (map (λ i. term_at c.args.self.now.terms i.0) c.args.args.now.items) = omega (arith, c.args.args.now.ok.0) in
-    app-whole c.args.sig.now c.build_app.new.store c.args.fresh.now.sort c.args.f s d _ c.build_app.result there e l (rw c.as_slice-2.ensures.value at (c.build_app.ensures.built c.args.sig.now h (found-there c.args.sig.now c.args.f s there)))
+    app-whole c.args.sig.now c.build_app.new.store c.args.fresh.now.sort c.args.f s d _ c.build_app.result there e (rw c.as_slice-2.ensures.value at (c.build_app.ensures.built c.args.sig.now h (found-there c.args.sig.now c.args.f s there)))
 
 pub returns-clause-sorted : goal.returns-clause-sorted
 returns-clause-sorted c = λ h.

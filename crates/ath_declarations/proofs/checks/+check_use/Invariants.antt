@@ -1,8 +1,0 @@
-use Rattle.std.proofs.Common.{◌≡◌, drop, map}
-use Rattle.std.specs.Prelude.{option_map}
-use Rattle.ath_sorts.specs.Declaring.{first_fault}
-use Rattle.ath_declarations.specs.Steps.{place_fault}
-use Rattle.ath_declarations.proofs.checks.+check_use.Given as goal
-
-abbrev pub invariant-loop-arg : goal.invariant-loop-arg
-invariant-loop-arg l = first_fault (map (place_fault l.sig (option_map (λ ps. ps.now) l.params)) l.arg-items) ≡ first_fault (map (place_fault l.sig (option_map (λ ps. ps.now) l.params)) (drop l.arg-index l.arg-items))

@@ -1,8 +1,0 @@
-use Rattle.std.proofs.Common.{◌≡◌, drop}
-use Rattle.std.specs.List.{list_any}
-use Rattle.ath_sorts.specs.Sorts.{occurs}
-use Rattle.ath_sorts.specs.declared.sorts.SVar.TheVariants.{Written}
-use Rattle.ath_declarations.proofs.checks.occurs_among.Given as goal
-
-abbrev pub invariant-loop-arg : goal.invariant-loop-arg
-invariant-loop-arg l = list_any (occurs (Written l.param)) l.args ≡ list_any (occurs (Written l.param)) (drop l.arg-index l.args)

@@ -1,31 +1,29 @@
 -- The entries of a base, from the newest.
-use Rattle.std.proofs.Common.{◌≡◌, ◌↔◌, ◌<◌, ◌≤◌, ◌-◌, ℕ, suc, Bool, true, false, List, [], ◌∷◌, ◌++◌, length, take, get_or, Option, Some, None, if◌then◌else◌, refl, sym, ◌∙◌, ap, subst, arith}
-use Rattle.std.specs.Prelude.{option_map}
+use Rattle.std.proofs.Common.{◌≡◌, ◌↔◌, ◌<◌, ◌≤◌, ◌-◌, ℕ, suc, Bool, true, false, List, [], ◌∷◌, ◌++◌, length, take, get_or, Some, if◌then◌else◌, refl, sym, ◌∙◌, ap, arith}
 use Rattle.ath_terms.specs.Trees.{Trees, sent_at, Grows}
-use Rattle.ath_trees.specs.Same.{same_sent}
 use Rattle.ath_trees.specs.Tree.{Sent}
 use Rattle.ath_trees.proofs.SameLaws.{same_sent_is}
 use Rattle.ath_base.specs.declared.entry.Entry as code
 use Rattle.ath_base.specs.Base.{Entry, holds}
-use Rattle.ath_base.specs.Stands.{entry_of, entries_of, AreIn}
+use Rattle.ath_base.specs.Stands.{entry_at, entries_of, AreStored}
 use Rattle.std.proofs.Math.Seq.{take-suc}
 use Rattle.std.proofs.lemmas.List.Elements.{All-head, All-tail}
 
 -- the last entry is the newest
-pub entries_last : (s : Trees) (es : List code.Entry) (e : code.Entry) → entries_of s (es ++ e ∷ []) ≡ entry_of s e ∷ entries_of s es
+pub entries_last : (s : Trees) (es : List code.Entry) (e : code.Entry) → entries_of s (es ++ e ∷ []) ≡ entry_at s e ∷ entries_of s es
 entries_last s [] e = refl
-entries_last s (d ∷ es) e = ap (λ (l : List Entry). l ++ entry_of s d ∷ []) (entries_last s es e)
+entries_last s (d ∷ es) e = ap (λ (l : List Entry). l ++ entry_at s d ∷ []) (entries_last s es e)
 
 module _ (s : Trees) (es : List code.Entry) (p : Sent) (i : ℕ) (d : code.Entry) (h : i < length es) where
-  front : entries_of s (take (suc i) es) ≡ entry_of s (get_or es i d) ∷ entries_of s (take i es)
+  front : entries_of s (take (suc i) es) ≡ entry_at s (get_or es i d) ∷ entries_of s (take i es)
   front = ap (entries_of s) (take-suc es i d h) ∙ entries_last s (take i es) (get_or es i d)
 
-  here : (b : Bool) → (b ≡ true) ↔ (sent_at s.sents (get_or es i d).sentence.0 ≡ p) → holds (entries_of s (take (suc i) es)) p ≡ (if b then Some (entry_of s (get_or es i d)) else holds (entries_of s (take i es)) p)
+  here : (b : Bool) → (b ≡ true) ↔ (sent_at s.sents (get_or es i d).sentence.0 ≡ p) → holds (entries_of s (take (suc i) es)) p ≡ (if b then Some (entry_at s (get_or es i d)) else holds (entries_of s (take i es)) p)
   here b same =
       ap (λ (l : List Entry). holds l p) front
-      ∙ ap (λ t. if t then Some (entry_of s (get_or es i d)) else holds (entries_of s (take i es)) p) (sym (same_sent_is b (sent_at s.sents (get_or es i d).sentence.0) p same))
+      ∙ ap (λ t. if t then Some (entry_at s (get_or es i d)) else holds (entries_of s (take i es)) p) (sym (same_sent_is b (sent_at s.sents (get_or es i d).sentence.0) p same))
 
-  pub found_here : (b : Bool) → (b ≡ true) ↔ (sent_at s.sents (get_or es i d).sentence.0 ≡ p) → b ≡ true → Some (entry_of s (get_or es i d)) ≡ holds (entries_of s (take (suc i) es)) p
+  pub found_here : (b : Bool) → (b ≡ true) ↔ (sent_at s.sents (get_or es i d).sentence.0 ≡ p) → b ≡ true → Some (entry_at s (get_or es i d)) ≡ holds (entries_of s (take (suc i) es)) p
   found_here b same e = sym (here b same ∙ rw e refl)
 
   pub not_here : (b : Bool) → (b ≡ true) ↔ (sent_at s.sents (get_or es i d).sentence.0 ≡ p) → b ≡ false → holds (entries_of s (take (suc i) es)) p ≡ holds (entries_of s (take i es)) p
@@ -42,7 +40,7 @@ module _ (s : Trees) (es all : List code.Entry) (p : Sent) (left : ℕ) (d : cod
   from_last : holds (entries_of s es) p ≡ holds (entries_of s (take (suc (left - 1)) es)) p
   from_last = so_far ∙ ap (λ (n : ℕ). holds (entries_of s (take n es)) p) (sym last)
 
-  pub answer_found : (b : Bool) → (b ≡ true) ↔ (sent_at s.sents (get_or es (left - 1) d).sentence.0 ≡ p) → b ≡ true → Some (entry_of s (get_or es (left - 1) d)) ≡ holds (entries_of s all) p
+  pub answer_found : (b : Bool) → (b ≡ true) ↔ (sent_at s.sents (get_or es (left - 1) d).sentence.0 ≡ p) → b ≡ true → Some (entry_at s (get_or es (left - 1) d)) ≡ holds (entries_of s all) p
   answer_found b same e = found_here s es p (left - 1) d inside b same e ∙ sym from_last ∙ ap (λ (l : List code.Entry). holds (entries_of s l) p) whole
 
   pub still_left : (b : Bool) → (b ≡ true) ↔ (sent_at s.sents (get_or es (left - 1) d).sentence.0 ≡ p) → b ≡ false → holds (entries_of s es) p ≡ holds (entries_of s (take (left - 1) es)) p
@@ -50,12 +48,12 @@ module _ (s : Trees) (es all : List code.Entry) (p : Sent) (left : ℕ) (d : cod
 
 -- ---- in a store that grows
 module _ (s t : Trees) (g : Grows s t) where
-  pub entries_grow : (es : List code.Entry) → AreIn s es → entries_of t es ≡ entries_of s es
+  pub entries_grow : (es : List code.Entry) → AreStored s es → entries_of t es ≡ entries_of s es
   entries_grow [] h = refl
   entries_grow (e ∷ es) h =
       let here : sent_at t.sents e.sentence.0 ≡ sent_at s.sents e.sentence.0 = g.same_sents e.sentence.0 (All-head (λ (e : code.Entry). e.sentence.0 < length s.sents) e es h) in
       let rest : entries_of t es ≡ entries_of s es = entries_grow es (All-tail (λ (e : code.Entry). e.sentence.0 < length s.sents) e es h) in
       rw (here, rest) refl
 
-  pub entries_in_grow : (es : List code.Entry) → AreIn s es → AreIn t es
+  pub entries_in_grow : (es : List code.Entry) → AreStored s es → AreStored t es
   entries_in_grow es h = λ k d lt. omega (arith, g.sents, h k d lt)

@@ -3,7 +3,7 @@
 ghost use Rattle.std.specs.Prelude.{◌≡◌, ◌<◌, [], ◌∷◌, ◌++◌, OnErr, OnOk, length, option_map};
 ghost use Rattle.ath_terms.specs.Trees.{sent_at};
 ghost use Rattle.ath_base.specs.Base.{holds};
-ghost use Rattle.ath_base.specs.Stands.{entry_of, entries_of, AreIn};
+ghost use Rattle.ath_base.specs.Stands.{entry_at, entries_of, AreStored};
 
 use crate::entry::{Entry, Origin};
 use ath_terms::Store;
@@ -38,9 +38,9 @@ impl Base {
 
     /// The newest entry by which a sentence holds; none exactly where it doesn't hold.
     pub fn holds(&self, store: &Store, p: SentId) -> Option<Entry>
-        requires entries { AreIn store.now self.now.entries.items }
+        requires entries { AreStored store.now self.now.entries.items }
         requires sentence { p.0 < length store.now.sents }
-        ensures { option_map (entry_of store.now) result ≡ holds (entries_of store.now self.now.entries.items) (sent_at store.now.sents p.0) }
+        ensures { option_map (entry_at store.now) result ≡ holds (entries_of store.now self.now.entries.items) (sent_at store.now.sents p.0) }
     {
         let entries = self.entries.as_slice();
         let mut left = entries.len();

@@ -13,7 +13,7 @@ use ath_grammar::{Guard, Lexeme};
 use ath_numbering::kind::is_deduction;
 use ath_numbering::{DirectiveTree, PatternTree, PhraseTree, StatementTree};
 use ath_sorts::Sym;
-use ath_syntax::{Pos, SortText};
+use ath_syntax::{Pos, SortText, Text};
 use sqlite_items::Items;
 use std::alloc::{AllocError, Global};
 
@@ -23,7 +23,7 @@ pub(crate) enum Value {
     Place(Pos),
     Name(Pos, Sym),
     Variable(Pos, Sym, u64),
-    Text(Pos, Items<u8>),
+    Text(Pos, Text),
     Sort(SortText),
     Sorts(Items<SortText>),
     Pattern(PatternTree),
@@ -121,7 +121,7 @@ impl Values {
         }
     }
 
-    pub(crate) fn text(&mut self, alloc: Global) -> Items<u8>
+    pub(crate) fn text(&mut self, alloc: Global) -> Text
         ensures value { result ≡ text_in (v1 (held self.old)) }
         ensures rest { held self.new ≡ rest (held self.old) }
     {
@@ -129,7 +129,7 @@ impl Values {
             Value::Text(_, text) => text,
             other => {
                 drop(other);
-                Items::new(alloc)
+                Text::empty(alloc)
             }
         }
     }
@@ -366,7 +366,7 @@ impl Values {
             Lexeme::Variable(name, index) => self.push(Value::Variable(pos, *name, *index)),
             Lexeme::SortVariable(name) => self.push(Value::Name(pos, *name)),
             Lexeme::Text(text) => {
-                let text = Items::from_slice(alloc, text.as_slice())?;
+                let text = text.copy(alloc)?;
                 self.push(Value::Text(pos, text))
             }
             Lexeme::Opener(_) => self.push(Value::Place(pos)),

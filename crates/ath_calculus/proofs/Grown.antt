@@ -12,7 +12,7 @@ use Rattle.ath_sorts.specs.Signature.{Signature, arity_of}
 use Rattle.ath_trees.specs.Tree.{Term, Terms, Sent, atom, equal, negated, joined, bound}
 use Rattle.ath_trees.specs.WellSorted.{has_arity, valid_step, is_valid_sort, HasSort, var_has, app_has, HaveSorts, none_has, more_has, IsWellSorted, AreWellSorted}
 use Rattle.ath_calculus.specs.Derives.{Derives, axiom_of, if_elim}
-use Rattle.ath_calculus.specs.Laws.{Extends, AreIn}
+use Rattle.ath_calculus.specs.Laws.{Extends, AreAmong}
 use Rattle.ath_calculus.specs.Theory.{Theory}
 
 both : (a b : Bool) → a && b ≡ true → (a ≡ true) × (b ≡ true)
@@ -78,7 +78,7 @@ module _ (old new : Theory) (grown : Extends old new) where
   sents_kept [] h = tt
   sents_kept (p ∷ ps) h = (sent_kept p h.0, sents_kept ps h.1)
 
-  pub derivation_kept : (fewer others : List Sent) → AreIn fewer others → {hyps : List Sent} {p : Sent} → Derives old fewer hyps p → Derives new others hyps p
+  pub derivation_kept : (fewer others : List Sent) → AreAmong fewer others → {hyps : List Sent} {p : Sent} → Derives old fewer hyps p → Derives new others hyps p
   derivation_kept fewer others among (axiom_of {hyps} {p} h w i) = axiom_of (sents_kept hyps h) (sent_kept p w) (among p i)
   derivation_kept fewer others among (if_elim d e) = if_elim (derivation_kept fewer others among d) (derivation_kept fewer others among e)
 

@@ -5,21 +5,21 @@ use Rattle.ath_sorts.specs.declared.signature.Symbol.{Symbol}
 use Rattle.ath_sorts.specs.Signature.{arity_of, symbol_of}
 use Rattle.ath_trees.specs.Tree.{Sent}
 use Rattle.ath_trees.specs.WellSorted.{IsWellSorted}
-use Rattle.ath_calculus.specs.Derives.{Derives, IsIn}
+use Rattle.ath_calculus.specs.Derives.{Derives, IsAmong}
 use Rattle.ath_calculus.specs.Theory.{Theory, Datatype}
 
 -- what the one theory has, the other has too
 pub record Extends (old new : Theory) : Type 0 where
   pub sorts : (c : Sym) (n : ℕ) → arity_of old.signature c ≡ Some n → arity_of new.signature c ≡ Some n
   pub symbols : (f : Sym) (d : Symbol) → symbol_of old.signature f ≡ Some d → symbol_of new.signature f ≡ Some d
-  pub datatypes : (d : Datatype) → IsIn d old.datatypes → IsIn d new.datatypes
+  pub datatypes : (d : Datatype) → IsAmong d old.datatypes → IsAmong d new.datatypes
 
-abbrev pub AreIn : List Sent → List Sent → Type 0
-AreIn some others = (p : Sent) → IsIn p some → IsIn p others
+abbrev pub AreAmong : List Sent → List Sent → Type 0
+AreAmong some others = (p : Sent) → IsAmong p some → IsAmong p others
 
 abbrev pub Growth : Type 0
 Growth =
-    (old new : Theory) (fewer more hyps : List Sent) (p : Sent) → Extends old new → AreIn fewer more
+    (old new : Theory) (fewer more hyps : List Sent) (p : Sent) → Extends old new → AreAmong fewer more
     → Derives old fewer hyps p → Derives new more hyps p
 
 abbrev pub WellSorted : Type 0

@@ -4,6 +4,7 @@ use Rattle.std.specs.List.{AllByRecursion}
 use Rattle.ath_sorts.specs.declared.signature.Symbol.{Symbol}
 use Rattle.ath_sorts.specs.declared.sorts.Sort.{Sort}
 use Rattle.ath_sorts.specs.declared.sorts.Sym.{Sym}
+use Rattle.ath_sorts.specs.declared.limits.TheConstants.{MOST_WIDTH}
 use Rattle.ath_sorts.specs.Declaring.{use_fault}
 use Rattle.ath_sorts.specs.Sorts.{is_small}
 use Rattle.ath_sorts.specs.Signature.{Signature, arity_of, symbol_of}
@@ -56,9 +57,9 @@ DomainsKeepValidity = (old new : Signature) (name : Sym) (vars : List Sym) → I
 abbrev pub SymbolsKeepValidity : Type 0
 SymbolsKeepValidity = (old new : Signature) (names : List Sym) (list : Option (List Sym)) (args : List SortText) (result : SortText) → IsValid old → IfSome list AreDistinct → declared old names list args result ≡ Ok new → IsValid new
 
--- each symbol has at most 64 parameters
+-- no symbol has too many parameters
 abbrev pub AreNarrow : Signature → Type 0
-AreNarrow sig = (f : Sym) (s : Symbol) → symbol_of sig f ≡ Some s → length s.params ≤ 64
+AreNarrow sig = (f : Sym) (s : Symbol) → symbol_of sig f ≡ Some s → length s.params ≤ MOST_WIDTH
 
 -- a domain adds no symbol that is wider
 abbrev pub DomainsKeepNarrow : Type 0

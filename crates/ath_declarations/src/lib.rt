@@ -5,8 +5,6 @@ mod checks;
 pub mod declaring;
 pub mod laws;
 mod params;
-#[cfg(test)]
-mod tests;
 pub mod texts;
 
 pub use declaring::{DeclareError, declare, declare_domain};

@@ -1,29 +1,18 @@
 -- Applications of connectives.
 use Rattle.std.proofs.Common.{◌≡◌, ℕ, zero, suc, ◌+◌, ◌<◌, ◌≤◌, Bool, true, cond, List, [], ◌∷◌, ◌++◌, length, map, drop, get_or, Result, Ok, Err, refl, sym, ◌∙◌, ap, subst, add-one, drop-cons, length-append, arith}
 use Rattle.std.specs.List.{All}
-use Rattle.std.proofs.lemmas.List.Elements.{All-nil, All-cons, All-head, All-tail, All-weaker}
-use Rattle.ath_sorts.specs.declared.sorts.SVar.{SVar}
-use Rattle.ath_sorts.specs.declared.sorts.Sort.{Sort}
+use Rattle.std.proofs.lemmas.List.Elements.{All-head, All-tail, All-weaker}
 use Rattle.ath_sorts.specs.Signature.{Signature}
-use Rattle.ath_sorts.proofs.Bools.{and_parts}
 use Rattle.ath_syntax.specs.declared.place.Pos.{Pos}
-use Rattle.ath_terms.specs.declared.fresh.Fresh.{Fresh}
 use Rattle.ath_terms.specs.declared.measure.BuildError.{BuildError}
-use Rattle.ath_terms.specs.declared.measure.BuildError.TheVariants.{Memory}
+use Rattle.ath_terms.specs.declared.measure.BuildError.TheVariants.{SortClash, ArgCount, NotBoolean, TooLarge, TooDeep, SortTooLarge, Memory}
 use Rattle.ath_trees.specs.declared.node.Conn.{Conn}
-use Rattle.ath_trees.specs.declared.node.Binary.{Binary}
-use Rattle.ath_trees.specs.declared.node.Binary.TheVariants as binary
-use Rattle.ath_trees.specs.declared.node.Conn.TheVariants.{Not, And, Or, If, Iff}
 use Rattle.ath_trees.specs.declared.node.SentId.{SentId}
 use Rattle.ath_trees.specs.declared.node.TermId.{TermId}
-use Rattle.ath_terms.specs.Construction as terms
-use Rattle.ath_terms.specs.Construction.{connected, grouped, takes}
-use Rattle.ath_terms.specs.Answers as answers
-use Rattle.ath_trees.specs.Measure.{IsSmall}
-use Rattle.ath_trees.specs.Tree.{Sent, atom, equal, negated, joined, bound}
+use Rattle.ath_construction.specs.Construction.{takes, Unbuilt, counts, not_boolean, clash, sort_above, nodes_above, levels_above, Built, builds, refuses, made_atom, made_connective}
+use Rattle.ath_construction.specs.Answers.{IsRefused, IsSentBuilt}
+use Rattle.ath_trees.specs.Tree.{Sent}
 use Rattle.ath_terms.specs.Trees.{Trees, term_at, sent_at, Grows}
-use Rattle.ath_trees.specs.Under.{sent_under, has_no_binder}
-use Rattle.ath_trees.proofs.ValidSorts.{both_true}
 use Rattle.ath_env.specs.declared.value.Value as value
 use Rattle.ath_env.specs.declared.value.Value.TheVariants as code
 use Rattle.ath_env.specs.Stands.{value_at}
@@ -31,20 +20,22 @@ use Rattle.ath_eval.specs.declared.kinds.Part.{Part as Piece}
 use Rattle.ath_eval.specs.declared.kinds.Part.TheVariants as piece
 use Rattle.ath_eval.specs.declared.world.Outcome as outcome
 use Rattle.ath_eval.specs.Applying.{Kinds, kinds_of, Part, part_of, term_part, sentence_part, sentence_made, and_sentence, sentences_made, connective_of, connective_to, connective_applied, gives_sentence}
-use Rattle.ath_eval.specs.Arguments.{IsGoodPiece, values_at, piece_tree}
-use Rattle.ath_eval.specs.Building.{Built, builds, refuses, made_atom, made_connective}
-use Rattle.ath_eval.specs.Stands.{why_unbuilt, IsErrorIn, IsRefused, IsSentBuilt, IsSentIn, AreSentsIn}
+use Rattle.ath_eval.specs.Arguments.{IsPieceIn, values_at, piece_tree}
+use Rattle.ath_eval.specs.Building.{told}
+use Rattle.ath_eval.specs.Stands.{IsWhy, AreSentsIn}
 use Rattle.ath_eval.specs.Outcomes.{Left, Outcome, fails}
 use Rattle.ath_eval.specs.World.{IsSteady}
-use Rattle.ath_eval.proofs.Arguments.{good_grows}
-use Rattle.ath_eval.proofs.Constructions.{atom_built, connective_built}
+use Rattle.ath_env.proofs.ValueLaws.{is_in-kept}
+use Rattle.ath_eval.proofs.Answering.{refused_why}
 use Rattle.ath_eval.proofs.KindLaws.{length_map}
 
 -- ---- one part
-pub atom_part : (sig : Signature) (s u : Trees) (part : Piece) (t : TermId) (r : Result SentId BuildError) → Grows s u → part ≡ piece.Term t → IsGoodPiece s part → answers.IsSentBuilt u (terms.made_atom sig (term_at s.terms t.0)) r → IsSentBuilt u (sentence_made sig (piece_tree s part)) r
-atom_part sig s u part t r g e h m =
-    let b : IsSentBuilt u (made_atom sig (term_at s.terms t.0)) r = atom_built sig u (term_at s.terms t.0) r m in
-    subst (λ (p : Piece). IsSentBuilt u (sentence_made sig (piece_tree s p)) r) (sym e) b
+pub atom_part : (sig : Signature) (s u : Trees) (part : Piece) (t : TermId) (r : Result SentId BuildError) → part ≡ piece.Term t → IsSentBuilt u (made_atom sig (term_at s.terms t.0)) r → IsSentBuilt u (sentence_made sig (piece_tree s part)) r
+atom_part sig s u part t r e m = subst (λ (p : Piece). IsSentBuilt u (sentence_made sig (piece_tree s p)) r) (sym e) m
+
+-- the number of a sentence of the store
+abbrev pub IsSentIn : Trees → SentId → Type 0
+IsSentIn s p = p.0 < length s.sents
 
 -- ---- parts one by one
 abbrev pub with_front : List Sent → Built (List Sent) → Built (List Sent)
@@ -72,9 +63,7 @@ trees_push s (q ∷ ids) p = ap (λ (rs : List Sent). sent_at s.sents q.0 ∷ rs
 
 module _ (s t : Trees) (g : Grows s t) where
   sent_in_grows : (p : SentId) → IsSentIn s p → IsSentIn t p
-  sent_in_grows p h =
-      let e : sent_at s.sents p.0 ≡ sent_at t.sents p.0 = sym (g.same_sents p.0 h.0) in
-      (omega (arith, g.sents, h.0), subst (λ (x : Sent). IsSmall x) e h.1, subst (λ (x : Sent). has_no_binder x ≡ true) e h.2)
+  sent_in_grows p h = omega (arith, g.sents, h)
 
   pub sents_in_grow : (ids : List SentId) → All (IsSentIn s) ids → All (IsSentIn t) ids
   sents_in_grow ids h = All-weaker (IsSentIn s) (IsSentIn t) sent_in_grows ids h
@@ -84,18 +73,28 @@ module _ (s t : Trees) (g : Grows s t) where
   trees_grow (p ∷ ids) h =
       let a = All-head (IsSentIn s) p ids h in
       let b = trees_grow ids (All-tail (IsSentIn s) p ids h) in
-      λ i. g.same_sents p.0 a.0 i ∷ b i
+      λ i. g.same_sents p.0 a i ∷ b i
 
-  piece_grows : (p : Piece) → IsGoodPiece s p → piece_tree t p ≡ piece_tree s p
-  piece_grows (piece.Term i) h = ap term_part (g.same_terms i.0 h.0)
-  piece_grows (piece.Sent i) h = ap sentence_part (g.same_sents i.0 h.0)
+  piece_grows : (p : Piece) → IsPieceIn s p → piece_tree t p ≡ piece_tree s p
+  piece_grows (piece.Term i) h = ap term_part (g.same_terms i.0 h)
+  piece_grows (piece.Sent i) h = ap sentence_part (g.same_sents i.0 h)
 
-  pub good_piece_grows : (p : Piece) → IsGoodPiece s p → IsGoodPiece t p
-  good_piece_grows (piece.Term i) h = good_grows s t g (code.Term i) h
-  good_piece_grows (piece.Sent i) h = good_grows s t g (code.Sent i) h
+  pub piece_in_grows : (p : Piece) → IsPieceIn s p → IsPieceIn t p
+  piece_in_grows (piece.Term i) h = is_in-kept s t (code.Term i) g h
+  piece_in_grows (piece.Sent i) h = is_in-kept s t (code.Sent i) g h
+
+-- what is refused where another is, with the same refusal
+refused_same : {A B : Type 0} (u : Trees) (a : Built A) (b : Built B) (e : BuildError) → ((why : Unbuilt) → a ≡ refuses why → b ≡ refuses why) → IsRefused u a e → IsRefused u b e
+refused_same u a b (SortClash l r) f h = f (clash (l, r)) h
+refused_same u a b (ArgCount want given) f h = f (counts want given) h
+refused_same u a b (NotBoolean t) f (x, h, is) = (x, f (not_boolean x) h, is)
+refused_same u a b (TooLarge n) f h = f (nodes_above n) h
+refused_same u a b (TooDeep n) f h = f (levels_above n) h
+refused_same u a b SortTooLarge f h = f sort_above h
+refused_same u a b Memory f h = tt
 
 -- a part after others, whose sentences are known: s is the store at first, t that before the part, and u that after it
-module _ (sig : Signature) (s t u : Trees) (g : Grows s t) (k : Grows t u) (parts : List Piece) (i : ℕ) (d : Piece) (lt : i < length parts) (good : All (IsGoodPiece s) parts) (ids : List SentId) (so_far : All (IsSentIn t) ids) (whole : Built (List Sent)) (inv : whole ≡ with_front (trees_of t ids) (sentences_made sig (map (piece_tree s) (drop i parts)))) where
+module _ (sig : Signature) (s t u : Trees) (g : Grows s t) (k : Grows t u) (parts : List Piece) (i : ℕ) (d : Piece) (lt : i < length parts) (good : All (IsPieceIn s) parts) (ids : List SentId) (so_far : All (IsSentIn t) ids) (whole : Built (List Sent)) (inv : whole ≡ with_front (trees_of t ids) (sentences_made sig (map (piece_tree s) (drop i parts)))) where
   at_here : whole ≡ with_front (trees_of t ids) (and_sentence (sentence_made sig (piece_tree t (get_or parts i d))) (sentences_made sig (map (piece_tree s) (drop (i + 1) parts))))
   at_here =
       let e : drop i parts ≡ get_or parts i d ∷ drop (i + 1) parts = rw add-one (drop-cons parts i d lt) in
@@ -103,19 +102,18 @@ module _ (sig : Signature) (s t u : Trees) (g : Grows s t) (k : Grows t u) (part
       ∙ ap (λ (x : Part). with_front (trees_of t ids) (and_sentence (sentence_made sig x) (sentences_made sig (map (piece_tree s) (drop (i + 1) parts))))) (sym (piece_grows s t g (get_or parts i d) (good i d lt)))
 
   pub part_next : (p : SentId) → IsSentBuilt u (sentence_made sig (piece_tree t (get_or parts i d))) (Ok p) → (whole ≡ with_front (trees_of u (ids ++ p ∷ [])) (sentences_made sig (map (piece_tree s) (drop (i + 1) parts)))) × IsSentIn u p
-  part_next p (x, b, is, small, free) =
+  part_next p (x, b, is) =
       let e : x ≡ sent_at u.sents p.0 = sym is.1 in
       let f : trees_of t ids ++ x ∷ [] ≡ trees_of u (ids ++ p ∷ []) = (λ j. sym (trees_grow t u k ids so_far) j ++ e j ∷ []) ∙ sym (trees_push u ids p) in (
         at_here
             ∙ ap (λ (y : Built Sent). with_front (trees_of t ids) (and_sentence y (sentences_made sig (map (piece_tree s) (drop (i + 1) parts))))) b
             ∙ front_more (trees_of t ids) x (sentences_made sig (map (piece_tree s) (drop (i + 1) parts)))
             ∙ ap (λ (ps : List Sent). with_front ps (sentences_made sig (map (piece_tree s) (drop (i + 1) parts)))) f,
-        (is.0, subst (λ (y : Sent). IsSmall y) e small, subst (λ (y : Sent). has_no_binder y ≡ true) e free),
+        is.0,
       )
 
   pub part_refused : (e : BuildError) → IsSentBuilt u (sentence_made sig (piece_tree t (get_or parts i d))) (Err e) → IsRefused u whole e
-  part_refused e h n =
-      (at_here ∙ ap (λ (y : Built Sent). with_front (trees_of t ids) (and_sentence y (sentences_made sig (map (piece_tree s) (drop (i + 1) parts))))) (h n).0, (h n).1)
+  part_refused e h = refused_same u (sentence_made sig (piece_tree t (get_or parts i d))) whole e (λ why r. at_here ∙ ap (λ (y : Built Sent). with_front (trees_of t ids) (and_sentence y (sentences_made sig (map (piece_tree s) (drop (i + 1) parts))))) r) h
 
 pub length_push : (ids : List SentId) (p : SentId) (n : ℕ) → length ids ≡ n → length (ids ++ p ∷ []) ≡ n + 1
 length_push ids p n e = omega (arith, length-append ids (p ∷ []), e)
@@ -138,53 +136,19 @@ parts_done sig s t parts n ids whole le inv h =
     no_more [] = refl
     no_more (p ∷ ps) = ap (λ (qs : List Sent). p ∷ qs) (no_more ps)
 
-module _ (s : Trees) (ids : List SentId) (h : All (IsSentIn s) ids) where
-  pub sents_inside : All (λ (p : SentId). p.0 < length s.sents) ids
-  sents_inside = All-weaker (IsSentIn s) (λ (p : SentId). p.0 < length s.sents) (λ p k. k.0) ids h
-
 -- ---- the connective
-free_under : (f : SVar → Sort) (p : Sent) → has_no_binder p ≡ true → has_no_binder (sent_under f p) ≡ true
-free_under f (atom t) h = refl
-free_under f (equal x y) h = refl
-free_under f (negated p) h = free_under f p h
-free_under f (joined c p q) h =
-    let k = and_parts (has_no_binder p) (has_no_binder q) h in
-    both_true (has_no_binder (sent_under f p)) (has_no_binder (sent_under f q)) (free_under f p k.0) (free_under f q k.1)
-free_under f (bound b v p) h = absurd (cc)
-
-abbrev IsFree : Sent → Type 0
-IsFree p = has_no_binder p ≡ true
-
-free_grouped : (c : Binary) (ps : List Sent) → All IsFree ps → IsFree (grouped c ps)
-free_grouped c [] h = refl
-free_grouped c (p ∷ []) h = All-head IsFree p [] h
-free_grouped c (p ∷ q ∷ ps) h = both_true (has_no_binder p) (has_no_binder (grouped c (q ∷ ps))) (All-head IsFree p (q ∷ ps) h) (free_grouped c (q ∷ ps) (All-tail IsFree p (q ∷ ps) h))
-
--- parts without quantifiers make a sentence without them
-connected_free : (c : Conn) (ps : List Sent) → All IsFree ps → IsFree (connected c ps)
-connected_free Not [] h = refl
-connected_free Not (p ∷ ps) h = All-head IsFree p ps h
-connected_free And ps h = free_grouped binary.And ps h
-connected_free Or ps h = free_grouped binary.Or ps h
-connected_free If ps h = free_grouped binary.If ps h
-connected_free Iff ps h = free_grouped binary.Iff ps h
-
-free_trees : (s : Trees) (ids : List SentId) → All (IsSentIn s) ids → All IsFree (trees_of s ids)
-free_trees s [] h = All-nil IsFree
-free_trees s (p ∷ ids) h = All-cons IsFree (sent_at s.sents p.0) (trees_of s ids) (All-head (IsSentIn s) p ids h).2 (free_trees s ids (All-tail (IsSentIn s) p ids h))
-
 module _ (sig : Signature) (c : Conn) (at : Pos) (o : outcome.Outcome) (whole : Built (List Sent)) where
-  pub connective_made : (t u : Trees) (ids : List SentId) (n : ℕ) (r : Result SentId BuildError) → takes c n ≡ true → length ids ≡ n → AreSentsIn t whole ids
-      → answers.IsSentBuilt u (terms.made_connective sig c (trees_of t ids)) r
+  pub connective_made : (t u : Trees) (ids : List SentId) (r : Result SentId BuildError) → AreSentsIn t whole ids
+      → IsSentBuilt u (made_connective sig c (trees_of t ids)) r
       → ((b : Built Sent) → IsSentBuilt u b r → IsSteady u o (gives_sentence b at))
       → IsSteady u o (gives_sentence (connective_of sig c whole) at)
-  connective_made t u ids n r many e h m f =
-      let ps = trees_of t ids in
-      let b = connective_built sig u c ps r (λ v. free_under v (connected c ps) (connected_free c ps (free_trees t ids h.1))) m in
-      subst (λ (x : Built Sent). IsSteady u o (gives_sentence x at)) (sym (ap (connective_of sig c) h.0)) (f (made_connective sig c ps) b)
+  connective_made t u ids r h m f =
+      subst (λ (x : Built Sent). IsSteady u o (gives_sentence x at)) (sym (ap (connective_of sig c) h.0)) (f (made_connective sig c (trees_of t ids)) m)
 
-  pub connective_refused : (u : Trees) (e : BuildError) → IsRefused u whole e → (e ≡ Memory → ⊥) → (IsErrorIn u e → IsSteady u o (fails at (why_unbuilt u e))) → IsSteady u o (gives_sentence (connective_of sig c whole) at)
-  connective_refused u e h n f = subst (λ (x : Built (List Sent)). IsSteady u o (gives_sentence (connective_of sig c x) at)) (sym (h n).0) (f (h n).1)
+  pub connective_refused : (u : Trees) (e : BuildError) → IsRefused u whole e → (e ≡ Memory → ⊥) → ((why : Unbuilt) → IsWhy u e why → IsSteady u o (fails at (told why))) → IsSteady u o (gives_sentence (connective_of sig c whole) at)
+  connective_refused u e h n f =
+      let w = refused_why u whole e n h in
+      subst (λ (x : Built (List Sent)). IsSteady u o (gives_sentence (connective_of sig c x) at)) (sym w.1) (f w.0 w.2)
 
 -- ---- its arguments
 module _ (sig : Signature) (c : Conn) (s u : Trees) (vs : List value.Value) (at : Pos) (o : outcome.Outcome) (many : takes c (length vs) ≡ true) where

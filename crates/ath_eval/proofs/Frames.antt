@@ -9,7 +9,7 @@ use Rattle.ath_eval.specs.declared.frame.Frame.{Frame}
 use Rattle.ath_eval.specs.declared.frame.Frame.TheVariants.{Head, Argument, Ascription}
 use Rattle.ath_eval.specs.Machine.{Scope, Fills, Resumes}
 use Rattle.ath_eval.specs.Outcomes.{Outcome}
-use Rattle.ath_eval.proofs.Arguments.{argument_grows, arguments_grow}
+use Rattle.ath_eval.proofs.Arguments.{value_grows, values_grow}
 
 pub drop_at : {A : Type 0} (xs : List A) (i : ℕ) (x : A) → slice_get xs i ≡ Some x → drop i xs ≡ x ∷ drop (i + 1) xs
 drop_at xs i x h = drop_more xs i x (slice_get_within xs i x h) ∙ ap (λ y. y ∷ drop (i + 1) xs) (get_or_from_slice_get xs i x x h)
@@ -32,8 +32,8 @@ module _ (c : Scope) (nodes : Nodes) where
 
   module _ (s t : Trees) (g : Grows s t) where
     grow_fills : (f : Frame) (r out : Outcome) → Fills c nodes s f r out → Fills c nodes t f r out
-    grow_fills (Head i levels) r out h = h
-    grow_fills (Argument i v done levels) r out (x, w, vs, rest, isp, isv, all, few, phrases, q) = (x, w, vs, rest, isp, argument_grows s t g v w isv, arguments_grow s t g done vs all, few, phrases, q)
+    grow_fills (Head u i levels) r out h = h
+    grow_fills (Argument u i v done levels) r out (p, e, xs, w, vs, rest, isp, isv, all, few, phrases, q) = (p, e, xs, w, vs, rest, isp, value_grows s t g v w isv, values_grow s t g done vs all, few, phrases, q)
     grow_fills (Ascription i) r out h = h
 
     pub grow_resumes : (fs : List Frame) (r out : Outcome) → Resumes c nodes s fs r out → Resumes c nodes t fs r out

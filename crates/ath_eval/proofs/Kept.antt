@@ -1,13 +1,9 @@
 -- What is well-sorted in a theory is so in one that has what it has.
-use Rattle.std.proofs.Common.{List}
-use Rattle.ath_sorts.specs.declared.sorts.Sort.{Sort}
 use Rattle.ath_sorts.specs.Signature.{Signature}
 use Rattle.ath_sorts.specs.Validity.{IsValid}
 use Rattle.ath_declarations.specs.Laws.{Keeps}
-use Rattle.ath_trees.specs.Tree.{Term, Sent}
-use Rattle.ath_terms.specs.Trees.{Trees, term_at, sort_at, sent_at}
+use Rattle.ath_terms.specs.Trees.{Trees, sent_at}
 use Rattle.ath_terms.specs.SortsIn.{IsSortedIn}
-use Rattle.ath_trees.specs.WellSorted.{HasSort, IsWellSorted}
 use Rattle.ath_calculus.specs.Laws.{Extends}
 use Rattle.ath_calculus.specs.Theory.{Theory, theory_of}
 use Rattle.ath_calculus.proofs.Grown.{term_kept, sent_kept, derivation_kept}

@@ -3,17 +3,16 @@ use Rattle.std.proofs.Common.{◌≡◌, ℕ, suc, ◌+◌, ◌<◌, List, [], �
 use Rattle.std.specs.List.{All}
 use Rattle.std.proofs.lemmas.List.Elements.{All-nil, All-head, All-tail, All-cons}
 use Rattle.ath_trees.specs.declared.node.TermId.{TermId}
-use Rattle.ath_trees.specs.Measure.{IsSmall}
-use Rattle.ath_trees.specs.Tree.{Term, atom}
+use Rattle.ath_trees.specs.Tree.{Term}
 use Rattle.ath_terms.specs.Trees.{Trees, term_at}
 use Rattle.ath_env.specs.declared.value.Value as value
 use Rattle.ath_env.specs.declared.value.Value.TheVariants as code
 use Rattle.ath_env.specs.Values.{term_of}
-use Rattle.ath_env.specs.Stands.{value_at}
+use Rattle.ath_env.specs.Stands.{IsIn, value_at}
 use Rattle.ath_eval.specs.declared.kinds.Part.{Part as Piece}
 use Rattle.ath_eval.specs.declared.kinds.Part.TheVariants as piece
 use Rattle.ath_eval.specs.Applying.{Kinds, all_are, wrong_at, and_kind, kinds_of, Part, part_of}
-use Rattle.ath_eval.specs.Arguments.{IsGood, IsGoodPiece, values_at, piece_value, piece_tree, IsNoPiece}
+use Rattle.ath_eval.specs.Arguments.{IsPieceIn, values_at, piece_value, piece_tree, IsNoPiece}
 
 pub front_at : (vs front : List value.Value) (k : ℕ) (d : value.Value) → k < length vs → vs ≡ front ++ drop k vs → vs ≡ front ++ get_or vs k d ∷ drop (k + 1) vs
 front_at vs front k d h e = let f : drop k vs ≡ get_or vs k d ∷ drop (k + 1) vs = rw add-one (drop-cons vs k d h) in e ∙ ap (λ (rest : List value.Value). front ++ rest) f
@@ -78,23 +77,20 @@ module _ (s : Trees) where
     pub kinds_no_parts : (n : ℕ) → (ps : List Piece) × (v : value.Value) × (rest : List value.Value) × (vs ≡ map piece_value ps ++ v ∷ rest) × IsNoPiece v × (n ≡ length ps + 1) → kinds_of part_of 1 (values_at s vs) ≡ wrong_at n
     kinds_no_parts n (ps, v, rest, e, h, i) = ap (λ (us : List value.Value). kinds_of part_of 1 (values_at s us)) e ∙ wrong_part 1 ps v rest h ∙ ap wrong_at (sym i)
 
-  -- ---- good ones
-  good_ids : (ids : List TermId) → All (IsGood s) (map (λ t. code.Term t) ids) → All (λ i. i.0 < length s.terms) ids × All (λ i. IsSmall (atom (term_at s.terms i.0))) ids
-  good_ids [] h = (All-nil (λ (i : TermId). i.0 < length s.terms), All-nil (λ (i : TermId). IsSmall (atom (term_at s.terms i.0))))
-  good_ids (t ∷ ids) h =
-      let a = All-head (IsGood s) (code.Term t) (map (λ t. code.Term t) ids) h in
-      let b = good_ids ids (All-tail (IsGood s) (code.Term t) (map (λ t. code.Term t) ids) h) in
-      (All-cons (λ (i : TermId). i.0 < length s.terms) t ids a.0 b.0, All-cons (λ (i : TermId). IsSmall (atom (term_at s.terms i.0))) t ids a.1 b.1)
+  -- ---- those that are numbers of the store
+  ids_in : (ids : List TermId) → All (IsIn s) (map (λ t. code.Term t) ids) → All (λ i. i.0 < length s.terms) ids
+  ids_in [] h = All-nil (λ (i : TermId). i.0 < length s.terms)
+  ids_in (t ∷ ids) h = All-cons (λ (i : TermId). i.0 < length s.terms) t ids (All-head (IsIn s) (code.Term t) (map (λ t. code.Term t) ids) h) (ids_in ids (All-tail (IsIn s) (code.Term t) (map (λ t. code.Term t) ids) h))
 
-  pub good_terms : (vs : List value.Value) (ids : List TermId) → vs ≡ map (λ t. code.Term t) ids → All (IsGood s) vs → All (λ i. i.0 < length s.terms) ids × All (λ i. IsSmall (atom (term_at s.terms i.0))) ids
-  good_terms vs ids e h = good_ids ids (subst (λ (us : List value.Value). All (IsGood s) us) e h)
+  pub terms_in : (vs : List value.Value) (ids : List TermId) → vs ≡ map (λ t. code.Term t) ids → All (IsIn s) vs → All (λ i. i.0 < length s.terms) ids
+  terms_in vs ids e h = ids_in ids (subst (λ (us : List value.Value). All (IsIn s) us) e h)
 
-  good_pieces : (ps : List Piece) → All (IsGood s) (map piece_value ps) → All (IsGoodPiece s) ps
-  good_pieces [] h = All-nil (IsGoodPiece s)
-  good_pieces (p ∷ ps) h = All-cons (IsGoodPiece s) p ps (All-head (IsGood s) (piece_value p) (map piece_value ps) h) (good_pieces ps (All-tail (IsGood s) (piece_value p) (map piece_value ps) h))
+  pieces_in : (ps : List Piece) → All (IsIn s) (map piece_value ps) → All (IsPieceIn s) ps
+  pieces_in [] h = All-nil (IsPieceIn s)
+  pieces_in (p ∷ ps) h = All-cons (IsPieceIn s) p ps (All-head (IsIn s) (piece_value p) (map piece_value ps) h) (pieces_in ps (All-tail (IsIn s) (piece_value p) (map piece_value ps) h))
 
-  pub good_parts : (vs : List value.Value) (ps : List Piece) → vs ≡ map piece_value ps → All (IsGood s) vs → All (IsGoodPiece s) ps
-  good_parts vs ps e h = good_pieces ps (subst (λ (us : List value.Value). All (IsGood s) us) e h)
+  pub parts_in : (vs : List value.Value) (ps : List Piece) → vs ≡ map piece_value ps → All (IsIn s) vs → All (IsPieceIn s) ps
+  parts_in vs ps e h = pieces_in ps (subst (λ (us : List value.Value). All (IsIn s) us) e h)
 
 pub length_map : {A B : Type 0} (f : A → B) (xs : List A) → length (map f xs) ≡ length xs
 length_map f [] = refl

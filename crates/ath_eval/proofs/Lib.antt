@@ -1,11 +1,8 @@
 pub mod Answering
-pub mod ApplyLaws
 pub mod Arguments
 pub mod Ascriptions
-pub mod Base
 pub mod ConnectiveLaws
 pub mod Constructed
-pub mod Constructions
 pub mod Counts
 pub mod Frames
 pub mod Fuel
@@ -19,3 +16,4 @@ pub mod Shapes
 pub mod Sound
 pub mod Stretches
 pub mod SymbolLaws
+pub mod Worlds

@@ -1,22 +1,19 @@
 -- What modus ponens answers.
 use Rattle.std.specs.Prelude.{is_some}
-use Rattle.std.proofs.Common.{◌≡◌, ◌↔◌, Bool, true, false, List, Option, Some, None, refl, sym, ◌∙◌, subst, arith}
+use Rattle.std.proofs.lemmas.Grind.{common_steps}
+use Rattle.std.proofs.Common.{◌≡◌, ◌==◌, ◌↔◌, ℕ, Bool, true, false, List, Option, Some, None, refl, sym, ◌∙◌, subst, arith}
 use Rattle.ath_syntax.specs.declared.place.Pos.{Pos}
 use Rattle.ath_trees.specs.declared.node.Binary.TheVariants.{If}
 use Rattle.ath_trees.specs.Tree.{Sent, joined}
 use Rattle.ath_terms.specs.Trees.{Trees}
-use Rattle.ath_trees.specs.Measure.{IsSmall}
 use Rattle.ath_terms.specs.declared.fresh.Fresh.{Fresh}
-use Rattle.ath_trees.specs.Under.{has_no_binder}
-use Rattle.ath_sorts.proofs.Bools.{and_parts}
-use Rattle.ath_env.specs.Values.{a_sentence}
-use Rattle.ath_eval.specs.Arguments.{IsSmallValue}
 use Rattle.ath_trees.specs.Same.{same_sent}
 use Rattle.ath_trees.proofs.SameLaws.{same_sent_is}
 use Rattle.ath_eval.specs.declared.world.Outcome as code
+use Rattle.ath_env.specs.Values.{Value}
 use Rattle.ath_base.specs.Base.{Entry, holds}
-use Rattle.ath_eval.specs.Methods.{if_held, detached, from_implication, modus_ponens, wrong_shape, not_in_base}
-use Rattle.ath_eval.specs.Outcomes.{Left, Outcome, concludes}
+use Rattle.ath_eval.specs.Methods.{if_held, detached, from_implication, modus_ponens, wrong_shape, not_in_base, claimed, ponens, by_method}
+use Rattle.ath_eval.specs.Outcomes.{Environment, Left, Outcome, concludes}
 use Rattle.ath_eval.specs.World.{IsAnswer, IsSteady}
 
 -- a sentence that the base holds, and one that it doesn't
@@ -51,11 +48,12 @@ module _ (base : List Entry) (p a b q : Sent) (at : Pos) (t : Bool) (same : (t �
 pub of_implication : (base : List Entry) (p a b : Sent) (q : Option Sent) → p ≡ joined If a b → modus_ponens base p q ≡ from_implication base p a b q
 of_implication base p a b q e = rw e refl
 
-pub small_right : (p a b : Sent) → p ≡ joined If a b → IsSmallValue (a_sentence p) → IsSmallValue (a_sentence b)
-small_right p a b e h =
-    let k : IsSmallValue (a_sentence (joined If a b)) = subst (λ (x : Sent). IsSmallValue (a_sentence x)) e h in
-    let s : IsSmall (joined If a b) = k.0 in
-    (record { nodes = omega (arith, s.nodes); levels = omega (arith, s.levels) }, (and_parts (has_no_binder a) (has_no_binder b) k.1).1)
+-- `claim` is the method 0
+pub first_method : (env : Environment) (n : ℕ) (vs : List Value) (at : Pos) → n ≡ 0 → by_method env n vs at ≡ claimed env.base vs at
+first_method env n vs at e = rw e refl
+
+pub other_method : (env : Environment) (n : ℕ) (vs : List Value) (at : Pos) → (n ≡ 0 → ⊥) → by_method env n vs at ≡ ponens env.base vs at
+other_method env n vs at h = let q : (n == 0) ≡ false = grind (arith, common_steps) in rw q refl
 
 pub same_answer : (s : Trees) (o : code.Outcome) (f g : Left → Outcome) → f ≡ g → IsSteady s o g → IsSteady s o f
 same_answer s o f g e h = subst (λ (x : Left → Outcome). IsSteady s o x) (sym e) h

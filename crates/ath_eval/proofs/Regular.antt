@@ -1,6 +1,6 @@
 -- What holds of every evaluation: what it gives keeps a property, fuel never rises and the counters never fall, more fuel
 -- changes only what is left, and a step takes few fresh names.
-use Rattle.std.proofs.Common.{◌≡◌, ◌==◌, ℕ, zero, suc, ◌+◌, ◌*◌, ◌≤◌, Bool, true, false, ◌||◌, List, [], ◌∷◌, ◌++◌, length, Option, Some, None, refl, sym, ◌∙◌, ap, subst, inl, inr, if◌then◌else◌, suc-add, arith}
+use Rattle.std.proofs.Common.{◌≡◌, ◌==◌, ℕ, zero, suc, ◌+◌, ◌≤◌, Bool, true, false, List, [], ◌∷◌, ◌++◌, length, Option, Some, None, refl, sym, ◌∙◌, ap, subst, inl, inr, if◌then◌else◌, suc-add, arith}
 use Rattle.std.specs.Prelude.{Result, Ok, Err}
 use Rattle.std.specs.List.{AllByRecursion}
 use Rattle.std.proofs.lemmas.Grind.{common_steps}
@@ -18,24 +18,23 @@ use Rattle.ath_terms.specs.declared.fresh.Fresh.{Fresh}
 use Rattle.ath_trees.specs.declared.node.Conn.{Conn}
 use Rattle.ath_trees.specs.declared.node.Binary.TheVariants.{If}
 use Rattle.ath_trees.specs.SortsIn.{sort_in}
-use Rattle.ath_terms.specs.Construction.{wanted, takes}
+use Rattle.ath_construction.specs.Construction.{wanted, takes, Built, builds, refuses, made_app, made_equation, made_ascription}
 use Rattle.ath_trees.specs.Tree.{Term, var, Sent, joined}
 use Rattle.ath_trees.specs.Same.{same_sent}
 use Rattle.ath_trees.proofs.SameLaws.{same_sent-true}
-use Rattle.ath_calculus.specs.Derives.{IsIn}
+use Rattle.ath_calculus.specs.Derives.{IsAmong}
 use Rattle.ath_env.specs.Values.{Value, a_term, a_sentence, a_symbol, a_connective, a_quantifier, a_back, a_method, term_of, sentence_of, value_of}
 use Rattle.ath_env.specs.LookUp.{looked_up}
 use Rattle.ath_print.specs.Events.{Refusal}
 use Rattle.ath_base.specs.Base.{Entry, holds, sentences}
 use Rattle.ath_print.specs.declared.fault.FaultKind.TheVariants.{TooNested}
 use Rattle.ath_eval.specs.Outcomes.{Context, Environment, Left, left_of, Outcome, gives, concludes, fails, exhausts, refusal, Evaluator, spending, and_then, each}
-use Rattle.ath_eval.specs.Building.{Built, builds, refuses, made_app, made_equation, made_ascription}
-use Rattle.ath_eval.specs.Applying.{gives_term, gives_sentence, Kinds, all_are, wrong_at, kinds_of, after_params, symbol_to, symbol_applied, miscounted, equation_of, equation_to, equated, Part, part_of, sentences_made, connective_of, connective_to, connective_applied, symbol_or_equation, itself, applied, symbol_named, value_named}
+use Rattle.ath_eval.specs.Applying.{gives_term, gives_sentence, Kinds, all_are, wrong_at, kinds_of, after_params, symbol_to, symbol_applied, miscounted, equation_to, equated, Part, part_of, sentences_made, connective_of, connective_to, connective_applied, symbol_or_equation, itself, applied, symbol_named, value_named}
 use Rattle.ath_eval.specs.Methods.{wrong_shape, if_held, claim, detached, modus_ponens, mp, claimed, ponens, called}
 use Rattle.ath_eval.specs.Evaluation.{found, variable, with_sort, ascribed_to, ascribed, form, evaluated}
 use Rattle.ath_syntax.specs.Places.{place}
 use Rattle.ath_eval.specs.Room.{charged, IsBelow, IsNarrow}
-use Rattle.ath_eval.specs.Laws.{with_more, Moves, IsWithin}
+use Rattle.ath_eval.specs.Laws.{with_more, Spends, StaysWithin}
 
 -- the value or the conclusion has its property
 abbrev pub Yields : (Value → Type 0) → (Sent → Type 0) → Outcome → Type 0
@@ -52,9 +51,9 @@ pub record IsKept (c : Context) (env : Environment) (P : Value → Type 0) (Q : 
   pub sorted : (x : Sym) (k : ℕ) (text : SortText) (s : Sort) → meaning c.theory.signature text ≡ Ok s → P (a_term (var (record { name = x; index = k; sort = s })) s)
   pub ascribes : (v : Value) (t x : Term) (text : SortText) (s : Sort) → P v → term_of v ≡ Some t → meaning c.theory.signature text ≡ Ok s → made_ascription c.theory.signature t s ≡ builds x → P (a_term x (sort_in c.theory.signature x))
   pub applies : (f : Sym) (d : Symbol) (vs : List Value) (ts : List Term) (n : ℕ) (x : Term) → symbol_of c.theory.signature f ≡ Some d → AllByRecursion P vs → length d.args ≡ length vs → kinds_of term_of 1 vs ≡ all_are ts → made_app c.theory.signature n d ts ≡ builds x → P (a_term x (sort_in c.theory.signature x))
-  pub equates : (vs : List Value) (s t : Term) (x : Sent) → AllByRecursion P vs → kinds_of term_of 1 vs ≡ all_are (s ∷ t ∷ []) → made_equation c.theory.signature s t ≡ builds x → P (a_sentence x)
+  pub equates : (v w : Value) (s t : Term) (x : Sent) → P v → P w → term_of v ≡ Some s → term_of w ≡ Some t → made_equation c.theory.signature s t ≡ builds x → P (a_sentence x)
   pub connects : (k : Conn) (vs : List Value) (xs : List Part) (x : Sent) → AllByRecursion P vs → kinds_of part_of 1 vs ≡ all_are xs → connective_of c.theory.signature k (sentences_made c.theory.signature xs) ≡ builds x → P (a_sentence x)
-  pub held : (p : Sent) → IsIn p (sentences env.base) → Q p
+  pub held : (p : Sent) → IsAmong p (sentences env.base) → Q p
   pub detaches : (p q : Sent) → Q (joined If p q) → Q p → Q q
 
 abbrev pub IsNotSpent : Outcome → Type 0
@@ -63,9 +62,9 @@ IsNotSpent o = (at : Pos) (made : Fresh) → o ≡ exhausts at made → ⊥
 -- of an outcome from these counters, by the fuel; it may take what so many steps more than its fuel allow
 pub record IsRegular (sig : Signature) (P : Value → Type 0) (Q : Sent → Type 0) (more : ℕ) (fresh : Fresh) (f : ℕ → Outcome) : Type 0 where
   pub yields : (n : ℕ) → Yields P Q (f n)
-  pub moves : (n : ℕ) → Moves (left_of n fresh) (f n)
+  pub moves : (n : ℕ) → Spends (left_of n fresh) (f n)
   pub kept : (n k : ℕ) → IsNotSpent (f n) → f (n + k) ≡ with_more k (f n)
-  pub room : IsNarrow sig → (n : ℕ) → IsWithin (charged (n + more) fresh) (f n)
+  pub room : IsNarrow sig → (n : ℕ) → StaysWithin (charged (n + more) fresh) (f n)
 
 self : (n : ℕ) → n ≤ n
 self n = omega arith
@@ -76,7 +75,7 @@ same fresh = (self fresh.var, self fresh.sort)
 through : (a b d : ℕ) → a ≤ b → b ≤ d → a ≤ d
 through a b d p q = omega arith
 
-rises : (m n : ℕ) (fresh made : Fresh) (o : Outcome) → m ≤ n → IsBelow fresh made → Moves (left_of m made) o → Moves (left_of n fresh) o
+rises : (m n : ℕ) (fresh made : Fresh) (o : Outcome) → m ≤ n → IsBelow fresh made → Spends (left_of m made) o → Spends (left_of n fresh) o
 rises m n fresh made (gives v left) e a h = (through left.fuel m n h.0 e, through fresh.var made.var left.fresh.var a.0 h.1, through fresh.sort made.sort left.fresh.sort a.1 h.2)
 rises m n fresh made (concludes p left) e a h = (through left.fuel m n h.0 e, through fresh.var made.var left.fresh.var a.0 h.1, through fresh.sort made.sort left.fresh.sort a.1 h.2)
 rises m n fresh made (fails at why left) e a h = (through left.fuel m n h.0 e, through fresh.var made.var left.fresh.var a.0 h.1, through fresh.sort made.sort left.fresh.sort a.1 h.2)
@@ -85,7 +84,7 @@ rises m n fresh made (exhausts at last) e a h = (through fresh.var made.var last
 below-through : (a b d : Fresh) → IsBelow a b → IsBelow b d → IsBelow a d
 below-through a b d p q = (through a.var b.var d.var p.0 q.0, through a.sort b.sort d.sort p.1 q.1)
 
-pub wider : (a b : Fresh) (o : Outcome) → IsBelow a b → IsWithin a o → IsWithin b o
+pub wider : (a b : Fresh) (o : Outcome) → IsBelow a b → StaysWithin a o → StaysWithin b o
 wider a b (gives v left) e h = below-through (charged left.fuel left.fresh) a b h e
 wider a b (concludes p left) e h = below-through (charged left.fuel left.fresh) a b h e
 wider a b (fails at why left) e h = below-through (charged left.fuel left.fresh) a b h e
@@ -113,11 +112,11 @@ fails-not-spent place why left at last e = cc
 same_number : (m n : ℕ) → (m == n) ≡ true → m ≡ n
 same_number m n e = grind (arith, common_steps)
 
-in-base : (base : List Entry) (p : Sent) (e : Entry) → holds base p ≡ Some e → IsIn p (sentences base)
+in-base : (base : List Entry) (p : Sent) (e : Entry) → holds base p ≡ Some e → IsAmong p (sentences base)
 in-base [] p e h = absurd (cc)
 in-base (d ∷ base) p e h = go (same_sent d.sentence p) (in-base base p e) refl h
   where
-    go : (b : Bool) → (holds base p ≡ Some e → IsIn p (sentences base)) → same_sent d.sentence p ≡ b → (if b then Some d else holds base p) ≡ Some e → IsIn p (d.sentence ∷ sentences base)
+    go : (b : Bool) → (holds base p ≡ Some e → IsAmong p (sentences base)) → same_sent d.sentence p ≡ b → (if b then Some d else holds base p) ≡ Some e → IsAmong p (d.sentence ∷ sentences base)
     go true rec f g = inl (sym (same_sent-true d.sentence p f))
     go false rec f g = inr (rec g)
 
@@ -175,20 +174,14 @@ module _ (c : Context) (env : Environment) (P : Value → Type 0) (Q : Sent → 
       go true e = symbol_to-regular f d vs at fresh is h (same_number (length d.args) (length vs) e) (kinds_of term_of 1 vs) refl
       go false e = error-regular fresh
 
-  equation_of-regular : (vs : List Value) (ts : List Term) (at : Pos) (fresh : Fresh) → AllByRecursion P vs → kinds_of term_of 1 vs ≡ all_are ts → Regular fresh (λ n. equation_of c.theory.signature ts at (left_of n fresh))
-  equation_of-regular vs (s ∷ t ∷ []) at fresh h e = sent-regular (made_equation c.theory.signature s t) at fresh (λ x b. closed.equates vs s t x h e b)
-  equation_of-regular vs ts at fresh h e = error-regular fresh
-
-  equation_to-regular : (vs : List Value) (at : Pos) (fresh : Fresh) → AllByRecursion P vs → (k : Kinds Term) → kinds_of term_of 1 vs ≡ k → Regular fresh (λ n. equation_to c.theory.signature k at (left_of n fresh))
-  equation_to-regular vs at fresh h (wrong_at i) e = error-regular fresh
-  equation_to-regular vs at fresh h (all_are ts) e = equation_of-regular vs ts at fresh h e
+  equation_to-regular : (v w : Value) (at : Pos) (fresh : Fresh) → P v → P w → (o u : Option Term) → term_of v ≡ o → term_of w ≡ u → Regular fresh (λ n. equation_to c.theory.signature o u at (left_of n fresh))
+  equation_to-regular v w at fresh h k None u e f = error-regular fresh
+  equation_to-regular v w at fresh h k (Some s) None e f = error-regular fresh
+  equation_to-regular v w at fresh h k (Some s) (Some t) e f = sent-regular (made_equation c.theory.signature s t) at fresh (λ x b. closed.equates v w s t x h k e f b)
 
   equated-regular : (vs : List Value) (at : Pos) (fresh : Fresh) → AllByRecursion P vs → Regular fresh (λ n. equated c.theory.signature vs at (left_of n fresh))
-  equated-regular vs at fresh h = go (length vs == 2)
-    where
-      go : (b : Bool) → Regular fresh (λ n. (if b then equation_to c.theory.signature (kinds_of term_of 1 vs) else miscounted 2 vs) at (left_of n fresh))
-      go true = equation_to-regular vs at fresh h (kinds_of term_of 1 vs) refl
-      go false = error-regular fresh
+  equated-regular (v ∷ w ∷ []) at fresh h = equation_to-regular v w at fresh h.0 h.1.0 (term_of v) (term_of w) refl refl
+  equated-regular vs at fresh h = error-regular fresh
 
   connective_to-regular : (q : Conn) (vs : List Value) (at : Pos) (fresh : Fresh) → AllByRecursion P vs → (k : Kinds Part) → kinds_of part_of 1 vs ≡ k → Regular fresh (λ n. connective_to c.theory.signature q k at (left_of n fresh))
   connective_to-regular q vs at fresh h (wrong_at i) e = error-regular fresh
@@ -310,7 +303,7 @@ module _ (c : Context) (env : Environment) (P : Value → Type 0) (Q : Sent → 
   then-yields (fails at why left) go g h = tt
   then-yields (exhausts at made) go g h = tt
 
-  then-moves : (n : ℕ) (fresh : Fresh) (o : Outcome) (go : Value → Left → Outcome) → Goes go → Yields P Q o → Moves (left_of n fresh) o → Moves (left_of n fresh) (and_then o go)
+  then-moves : (n : ℕ) (fresh : Fresh) (o : Outcome) (go : Value → Left → Outcome) → Goes go → Yields P Q o → Spends (left_of n fresh) o → Spends (left_of n fresh) (and_then o go)
   then-moves n fresh (gives v left) go g h e = rises left.fuel n fresh left.fresh (go v left) e.0 (e.1, e.2) ((g v left.fresh h).moves left.fuel)
   then-moves n fresh (concludes p left) go g h e = rises left.fuel n fresh left.fresh (go (value_of p) left) e.0 (e.1, e.2) ((g (value_of p) left.fresh (closed.shown p h)).moves left.fuel)
   then-moves n fresh (fails at why left) go g h e = e
@@ -325,7 +318,7 @@ module _ (c : Context) (env : Environment) (P : Value → Type 0) (Q : Sent → 
   one-more : (left : ℕ) (made bound : Fresh) → IsBelow (charged left made) bound → IsBelow (charged (left + 1) made) (charged 1 bound)
   one-more left made bound h = (omega (arith, h.0), omega (arith, h.1))
 
-  then-room : (bound : Fresh) (o : Outcome) (go : Value → Left → Outcome) → Goes go → Yields P Q o → Narrow → IsWithin bound o → IsWithin (charged 1 bound) (and_then o go)
+  then-room : (bound : Fresh) (o : Outcome) (go : Value → Left → Outcome) → Goes go → Yields P Q o → Narrow → StaysWithin bound o → StaysWithin (charged 1 bound) (and_then o go)
   then-room bound (gives v left) go g h w e = wider (charged (left.fuel + 1) left.fresh) (charged 1 bound) (go v left) (one-more left.fuel left.fresh bound e) ((g v left.fresh h).room w left.fuel)
   then-room bound (concludes p left) go g h w e = wider (charged (left.fuel + 1) left.fresh) (charged 1 bound) (go (value_of p) left) (one-more left.fuel left.fresh bound e) ((g (value_of p) left.fresh (closed.shown p h)).room w left.fuel)
   then-room bound (fails at why left) go g h w e = below-through (charged left.fuel left.fresh) bound (charged 1 bound) e (few-same bound)
@@ -370,7 +363,7 @@ module _ (c : Context) (env : Environment) (P : Value → Type 0) (Q : Sent → 
     spent-yields zero = tt
     spent-yields (suc n) = h.yields n
 
-    spent-moves : (n : ℕ) → Moves (left_of n fresh) (spending n fresh at go)
+    spent-moves : (n : ℕ) → Spends (left_of n fresh) (spending n fresh at go)
     spent-moves zero = same fresh
     spent-moves (suc n) = rises n (suc n) fresh fresh (go (left_of n fresh)) (omega arith) (same fresh) (h.moves n)
 
@@ -378,7 +371,7 @@ module _ (c : Context) (env : Environment) (P : Value → Type 0) (Q : Sent → 
     spent-kept zero k s = absurd (s at fresh refl)
     spent-kept (suc n) k s = ap (λ m. spending m fresh at go) (suc-add n k) ∙ h.kept n k s
 
-    spent-room : Narrow → (n : ℕ) → IsWithin (charged (n + 0) fresh) (spending n fresh at go)
+    spent-room : Narrow → (n : ℕ) → StaysWithin (charged (n + 0) fresh) (spending n fresh at go)
     spent-room w zero = (omega arith, omega arith)
     spent-room w (suc n) = wider (charged (n + 1) fresh) (charged (suc n + 0) fresh) (go (left_of n fresh)) (omega arith, omega arith) (h.room w n)
 

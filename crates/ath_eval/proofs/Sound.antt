@@ -1,5 +1,5 @@
 -- Conclusions have derivations, and what expressions give is well-sorted.
-use Rattle.std.proofs.Common.{◌≡◌, ◌⊎◌, ℕ, suc, Bool, true, false, cond, List, [], ◌∷◌, ◌++◌, length, Option, Some, None, refl, sym, ◌∙◌, ap, subst, inl, inr, if◌then◌else◌}
+use Rattle.std.proofs.Common.{◌≡◌, ◌⊎◌, ℕ, suc, Bool, true, false, cond, List, [], ◌∷◌, length, Option, Some, None, refl, sym, ◌∙◌, ap, subst, inl, inr, if◌then◌else◌}
 use Rattle.std.specs.Prelude.{Ok}
 use Rattle.std.specs.List.{AllByRecursion}
 use Rattle.std.specs.Map.{lookup}
@@ -17,14 +17,15 @@ use Rattle.ath_declarations.specs.Texts.{written_in, meaning}
 use Rattle.ath_declarations.proofs.Keeping.{meant_sort}
 use Rattle.ath_syntax.specs.Tree.{Phrase}
 use Rattle.ath_terms.specs.declared.fresh.Fresh.{Fresh}
+use Rattle.ath_construction.specs.Construction.{builds, made_app}
 use Rattle.ath_terms.specs.Trees.{Trees}
 use Rattle.ath_trees.specs.Tree.{Term, Sent, atom, equal, negated, joined, bound}
 use Rattle.ath_trees.specs.WellSorted.{is_valid_sort, HasSort, var_has, IsWellSorted}
 use Rattle.ath_trees.proofs.ValidSorts.{valid-var, use_valid}
-use Rattle.ath_terms.proofs.ApplicationLaws.{found-name}
-use Rattle.ath_calculus.specs.Derives.{Derives, if_elim, IsIn, AreDerivable}
+use Rattle.ath_construction.proofs.ApplicationLaws.{found-name}
+use Rattle.ath_calculus.specs.Derives.{Derives, if_elim, IsAmong, AreDerivable}
 use Rattle.ath_calculus.specs.Theory.{Theory}
-use Rattle.ath_calculus.specs.Laws.{Extends, AreIn}
+use Rattle.ath_calculus.specs.Laws.{Extends, AreAmong}
 use Rattle.ath_calculus.proofs.Grown.{derivation_kept, well_sorted}
 use Rattle.ath_env.specs.Values.{Value, a_term, a_sentence, a_symbol, a_connective, a_quantifier, a_back, a_method, term_of, sentence_of, value_of}
 use Rattle.ath_env.specs.LookUp.{text_of, first_values, found_value}
@@ -33,12 +34,12 @@ use Rattle.ath_eval.specs.declared.world.Outcome.TheVariants as ends
 use Rattle.ath_eval.specs.Evaluation.{evaluated}
 use Rattle.ath_base.specs.Base.{sentences}
 use Rattle.ath_eval.specs.Outcomes.{Context, Environment, left_of, Outcome, gives, concludes, fails, exhausts}
-use Rattle.ath_eval.specs.Building.{builds, made_app}
 use Rattle.ath_eval.specs.Applying.{Kinds, all_are, wrong_at, and_kind, kinds_of, Part, term_part, sentence_part, part_of}
 use Rattle.ath_eval.specs.Laws.{ConclusionsFollow, IsSortedValue, ValuesAreSorted}
 use Rattle.ath_eval.specs.World.{IsOutcome, IsDerivable}
 use Rattle.ath_eval.proofs.Regular.{Yields, IsKept, evaluated-regular}
-use Rattle.ath_eval.proofs.Constructed.{IsSorted, own-sort, ascription-sorted, equation-sorted, application-sorted, IsSortedPart, joined-sorted}
+use Rattle.ath_construction.proofs.SortedLaws.{IsSorted, own-sort, ascription-sorted, equation-sorted, application-sorted}
+use Rattle.ath_eval.proofs.Constructed.{IsSortedPart, joined-sorted}
 
 -- ---- conclusions
 follows : (c : Context) (env : Environment) (asserted hyps : List Sent) → AreDerivable c.theory asserted hyps (sentences env.base) → IsKept c env (λ v. Unit {0}) (Derives c.theory asserted hyps)
@@ -49,7 +50,7 @@ follows c env asserted hyps sound = record {
   sorted = λ x k text s e. tt;
   ascribes = λ v t x text s h is e b. tt;
   applies = λ f d vs ts n x is h l e b. tt;
-  equates = λ vs s t x h e b. tt;
+  equates = λ v w s t x h k e f b. tt;
   connects = λ k vs xs x h e b. tt;
   held = sound;
   detaches = λ p q d e. if_elim d e;
@@ -65,7 +66,7 @@ theorem-derivable c env asserted hyps levels x fuel more fresh made s o sound h 
   where
     go : (o : code.Outcome) (r : Outcome) → evaluated c levels env x (left_of fuel fresh) ≡ r → IsOutcome s more made o r → IsDerivable c.theory asserted hyps s o
     go (ends.Value v) r e h = tt
-    go (ends.Error at why) r e h = tt
+    go (ends.Error why at) r e h = tt
     go (ends.Exhausted at) r e h = tt
     go (ends.Theorem p) (concludes q after) e h = subst (Derives c.theory asserted hyps) (sym h.0.1) (conclusions-follow c env asserted hyps levels x (left_of fuel fresh) after q sound e)
     go (ends.Theorem p) (gives v after) e h = absurd h
@@ -162,7 +163,7 @@ module _ (c : Context) (env : Environment) (asserted hyps : List Sent) (valid : 
     sorted = λ x k text s e. var_has (meant-valid text s e) refl;
     ascribes = λ v t x text s h is e b. ascription-sorted c.theory.signature valid there t x s (term-of v t h is) (meant-valid text s e) b;
     applies = λ f d vs ts n x is h l e b. application d vs ts n x (own-name f d is) l (all-of term_of Sorted HasOwn term-of 1 vs ts h e) b;
-    equates = λ vs s t x h e b. let k = all-of term_of Sorted HasOwn term-of 1 vs (s ∷ t ∷ []) h e in equation-sorted c.theory.signature valid there s t x k.0.0 k.0.1.0 b;
+    equates = λ v w s t x h k e f b. equation-sorted c.theory.signature valid there s t x (term-of v s h e) (term-of w t k f) b;
     connects = λ k vs xs x h e b. joined-sorted c.theory.signature valid there k xs x (all-of part_of Sorted HasOwnPart part-of 1 vs xs h e).0 b;
     held = sound;
     detaches = λ p q d e. if_elim d e;
@@ -191,13 +192,13 @@ sentence-sorted sig (a_method n) p h e = absurd (cc)
 
 -- ---- what a session keeps
 -- what is derivable stays so when the theory and the asserted sentences grow
-pub base_grown : (old new : Theory) (fewer others hyps base : List Sent) → Extends old new → AreIn fewer others → AreDerivable old fewer hyps base → AreDerivable new others hyps base
+pub base_grown : (old new : Theory) (fewer others hyps base : List Sent) → Extends old new → AreAmong fewer others → AreDerivable old fewer hyps base → AreDerivable new others hyps base
 base_grown old new fewer others hyps base grown among sound = λ p i. derivation_kept old new grown fewer others among (sound p i)
 
 -- a sentence that is derivable may join the base
 pub base_joined : (th : Theory) (asserted hyps base : List Sent) (q : Sent) → AreDerivable th asserted hyps base → Derives th asserted hyps q → AreDerivable th asserted hyps (q ∷ base)
 base_joined th asserted hyps base q sound d = λ p i. go p i
   where
-    go : (p : Sent) → (p ≡ q) ⊎ IsIn p base → Derives th asserted hyps p
+    go : (p : Sent) → (p ≡ q) ⊎ IsAmong p base → Derives th asserted hyps p
     go p (inl e) = subst (Derives th asserted hyps) (sym e) d
     go p (inr i) = sound p i

@@ -1,6 +1,7 @@
 -- The machine's stretches of work, one by one.
-use Rattle.std.proofs.Common.{◌≡◌, ℕ, zero, suc, ◌+◌, ◌-◌, ◌*◌, ◌<◌, ◌≤◌, List, [], ◌∷◌, ◌++◌, length, drop, Option, Some, None, refl, sym, ap, ◌∙◌, subst, arith, length-append}
+use Rattle.std.proofs.Common.{◌≡◌, ℕ, zero, suc, ◌+◌, ◌-◌, ◌*◌, ◌<◌, ◌≤◌, List, [], ◌∷◌, ◌++◌, length, drop, Option, Some, None, refl, ap, ◌∙◌, subst, arith, length-append}
 use Rattle.std.specs.Prelude.{slice_get}
+use Rattle.std.specs.List.{All}
 use Rattle.ath_sorts.specs.declared.sorts.Sym.{Sym}
 use Rattle.ath_syntax.specs.declared.node.PhraseId.{PhraseId}
 use Rattle.ath_syntax.specs.declared.node.Form.TheVariants.{Name, Var, Ascribe, Apply, Call}
@@ -16,17 +17,21 @@ use Rattle.ath_terms.proofs.Grow.{grows-none}
 use Rattle.ath_env.specs.LookUp.{looked_up}
 use Rattle.ath_env.specs.declared.value.Value as value
 use Rattle.ath_env.specs.Values.{Value}
+use Rattle.ath_env.specs.Stands.{IsIn}
 use Rattle.ath_print.specs.declared.fault.FaultKind.TheVariants.{TooNested}
 use Rattle.ath_eval.specs.declared.frame.Frame.{Frame}
 use Rattle.ath_eval.specs.declared.frame.Frame.TheVariants.{Head, Argument, Ascription}
 use Rattle.ath_eval.specs.declared.frame.State.{State}
+use Rattle.ath_eval.specs.declared.frame.Use.{Use}
+use Rattle.ath_eval.specs.declared.frame.Use.TheVariants as uses
 use Rattle.ath_eval.specs.declared.frame.State.TheVariants.{Enter, Done}
 use Rattle.ath_eval.specs.declared.world.Outcome as code
 use Rattle.ath_eval.specs.declared.world.Outcome.TheVariants as ends
-use Rattle.ath_eval.specs.Arguments.{IsArgument, AreArguments}
 use Rattle.ath_eval.specs.Evaluation.{found, variable, ascribed, unbuilt}
 use Rattle.ath_syntax.specs.Places.{place}
-use Rattle.ath_eval.specs.Machine.{Scope, evaluates, forms, acts, arguments_at, Resumes, Means, Steps, FormMeans, ArgumentsMean, rank, weight}
+use Rattle.ath_syntax.proofs.NodeLaws.{node_of}
+use Rattle.std.proofs.lemmas.Option.{slice_get_within}
+use Rattle.ath_eval.specs.Machine.{Scope, evaluates, forms, used, acts, arguments_at, Resumes, Means, Steps, FormMeans, ActMeans, ArgumentsMean, rank, weight}
 use Rattle.ath_eval.specs.Outcomes.{Left, left_of, Outcome, fails, exhausts, refusal, and_then, each}
 use Rattle.ath_eval.specs.World.{IsOutcome, IsSteady}
 use Rattle.ath_eval.proofs.Frames.{drop_at, drop_end, resumes_push, grow_resumes}
@@ -35,7 +40,7 @@ use Rattle.ath_eval.proofs.Shapes.{form_here, place_of, form_name, form_variable
 pub rank_below : (o : code.Outcome) → rank (Done o) ≤ 2
 rank_below (ends.Value v) = omega arith
 rank_below (ends.Theorem p) = omega arith
-rank_below (ends.Error at why) = omega arith
+rank_below (ends.Error why at) = omega arith
 rank_below (ends.Exhausted at) = omega arith
 
 -- a step of fuel
@@ -111,36 +116,43 @@ module _ (c : Scope) (nodes : Nodes) (s : Trees) where
         pub form_unbuilt : ((k : Sym) → n.form ≡ Name k → ⊥) → ((x : Sym) (k : ℕ) (text : Option SortText) → n.form ≡ Var x k text → ⊥) → ((j : PhraseId) (text : SortText) → n.form ≡ Ascribe j text → ⊥) → ((j : PhraseId) (is : List PhraseId) → n.form ≡ Apply j is → ⊥) → ((j : PhraseId) (is : List PhraseId) → n.form ≡ Call j is → ⊥) → FormMeans c nodes s fuel fresh i levels fs out → Resumes c nodes s fs (unbuilt n.pos (left_of fuel fresh)) out
         form_unbuilt nn nv ns na nc (x, isp, res) = here x isp res (unbuilt n.pos) (form_other nodes c levels n.pos n.form x nn nv ns na nc (form_here nodes i n x isp at))
 
-        head_pushed : (j : PhraseId) (x : Phrase) → IsPhrase nodes i x → HeadOf nodes c levels j x → Resumes c nodes s fs (forms c levels x (left_of fuel fresh)) out → Means c nodes s fuel fresh (Enter j levels) (fs ++ Head i levels ∷ []) out
-        head_pushed j x isp (h, ish, e) res =
-            (h, ish, resumes_push c nodes s fs (Head i levels) (evaluates c levels h (left_of fuel fresh)) _ out (x, isp, refl) (subst (λ (q : Outcome). Resumes c nodes s fs q out) (e (left_of fuel fresh)) res))
+        head_pushed : (u : Use) (j : PhraseId) (x : Phrase) → IsPhrase nodes i x → HeadOf nodes c levels u j x → Resumes c nodes s fs (forms c levels x (left_of fuel fresh)) out → Means c nodes s fuel fresh (Enter j levels) (fs ++ Head u i levels ∷ []) out
+        head_pushed u j x isp (p, h, xs, same, ish, e) res =
+            (h, ish, resumes_push c nodes s fs (Head u i levels) (evaluates c levels h (left_of fuel fresh)) _ out (p, h, xs, subst (λ (y : Phrase). IsPhrase nodes i y) same isp, refl) (subst (λ (q : Outcome). Resumes c nodes s fs q out) (e (left_of fuel fresh)) res))
 
-        pub form_applied : (j : PhraseId) (is : List PhraseId) → n.form ≡ Apply j is → FormMeans c nodes s fuel fresh i levels fs out → Means c nodes s fuel fresh (Enter j levels) (fs ++ Head i levels ∷ []) out
-        form_applied j is e (x, isp, res) = head_pushed j x isp (head_applied nodes c levels n.pos n.form x j is e (form_here nodes i n x isp at)) res
+        pub form_applied : (j : PhraseId) (is : List PhraseId) → n.form ≡ Apply j is → FormMeans c nodes s fuel fresh i levels fs out → Means c nodes s fuel fresh (Enter j levels) (fs ++ Head uses.Apply i levels ∷ []) out
+        form_applied j is e (x, isp, res) = head_pushed uses.Apply j x isp (head_applied nodes c levels n.pos n.form x j is e (form_here nodes i n x isp at)) res
 
-        pub form_called : (j : PhraseId) (is : List PhraseId) → n.form ≡ Call j is → FormMeans c nodes s fuel fresh i levels fs out → Means c nodes s fuel fresh (Enter j levels) (fs ++ Head i levels ∷ []) out
-        form_called j is e (x, isp, res) = head_pushed j x isp (head_called nodes c levels n.pos n.form x j is e (form_here nodes i n x isp at)) res
+        pub form_called : (j : PhraseId) (is : List PhraseId) → n.form ≡ Call j is → FormMeans c nodes s fuel fresh i levels fs out → Means c nodes s fuel fresh (Enter j levels) (fs ++ Head uses.Call i levels ∷ []) out
+        form_called j is e (x, isp, res) = head_pushed uses.Call j x isp (head_called nodes c levels n.pos n.form x j is e (form_here nodes i n x isp at)) res
 
     pub enters_form : (levels fuel : ℕ) → (fuel ≡ 0 → ⊥) → (levels ≡ 0 → ⊥) → Means c nodes s fuel fresh (Enter i levels) fs out → FormMeans c nodes s (fuel - 1) fresh i (levels - 1) fs out
     enters_form levels fuel z d (x, isp, res) = (x, isp, subst (λ (r : Outcome). Resumes c nodes s fs r out) (evaluated_form c levels x fuel fresh z d) res)
 
     -- the arguments
-    module _ (h : value.Value) (done : List value.Value) (levels fuel : ℕ) where
+    module _ (u : Use) (h : value.Value) (done : List value.Value) (levels fuel : ℕ) where
       each_end : (vs : List Value) (rest : Phrases) (go : List Value → Left → Outcome) → ArePhrases nodes [] rest → Resumes c nodes s fs (each (evaluates c levels) vs rest go (left_of fuel fresh)) out → Resumes c nodes s fs (go vs (left_of fuel fresh)) out
       each_end vs rest go phrases_none r = r
 
-      pub arguments_done : slice_get (arguments_at nodes i) (length done) ≡ None → ArgumentsMean c nodes s fuel fresh i h done levels fs out → (x : Phrase) × (v : Value) × (vs : List Value) × IsPhrase nodes i x × IsArgument s h v × AreArguments s done vs × Resumes c nodes s fs (acts c levels x v vs (left_of fuel fresh)) out
-      arguments_done none (x, v, vs, rest, isp, isv, all, few, phrases, res) =
-          (x, v, vs, isp, isv, all, each_end vs rest (acts c levels x v) (subst (λ is. ArePhrases nodes is rest) (drop_end (arguments_at nodes i) (length done) none) phrases) res)
+      pub arguments_done : slice_get (arguments_at nodes i) (length done) ≡ None → ArgumentsMean c nodes s fuel fresh u i h done levels fs out → ActMeans c nodes s fuel fresh u i h done levels fs out
+      arguments_done none (p, f, xs, v, vs, rest, isp, isv, all, few, phrases, res) =
+          (p, f, xs, v, vs, isp, isv, all, each_end vs rest (acts c levels u p v) (subst (λ is. ArePhrases nodes is rest) (drop_end (arguments_at nodes i) (length done) none) phrases) res)
 
-      pub arguments_next : (j : PhraseId) → slice_get (arguments_at nodes i) (length done) ≡ Some j → length done < most → ArgumentsMean c nodes s fuel fresh i h done levels fs out → Means c nodes s fuel fresh (Enter j levels) (fs ++ Argument i h done levels ∷ []) out
-      arguments_next j some few (x, v, vs, rest, isp, isv, all, le, phrases, res) =
+      pub arguments_next : (j : PhraseId) → slice_get (arguments_at nodes i) (length done) ≡ Some j → length done < most → ArgumentsMean c nodes s fuel fresh u i h done levels fs out → Means c nodes s fuel fresh (Enter j levels) (fs ++ Argument u i h done levels ∷ []) out
+      arguments_next j some few (p, f, xs, v, vs, rest, isp, isv, all, le, phrases, res) =
           go rest (subst (λ is. ArePhrases nodes is rest) (drop_at (arguments_at nodes i) (length done) j some) phrases) res
         where
-          go : (rest : Phrases) → ArePhrases nodes (j ∷ drop (length done + 1) (arguments_at nodes i)) rest → Resumes c nodes s fs (each (evaluates c levels) vs rest (acts c levels x v) (left_of fuel fresh)) out → Means c nodes s fuel fresh (Enter j levels) (fs ++ Argument i h done levels ∷ []) out
+          go : (rest : Phrases) → ArePhrases nodes (j ∷ drop (length done + 1) (arguments_at nodes i)) rest → Resumes c nodes s fs (each (evaluates c levels) vs rest (acts c levels u p v) (left_of fuel fresh)) out → Means c nodes s fuel fresh (Enter j levels) (fs ++ Argument u i h done levels ∷ []) out
           go rest (phrases_more {t = t} {ts = ts} ist all') r =
-              (t, ist, resumes_push c nodes s fs (Argument i h done levels) (evaluates c levels t (left_of fuel fresh)) _ out (x, v, vs, ts, isp, isv, all, few, all', refl) r)
+              (t, ist, resumes_push c nodes s fs (Argument u i h done levels) (evaluates c levels t (left_of fuel fresh)) _ out (p, f, xs, v, vs, ts, isp, isv, all, few, all', refl) r)
 
--- what a stretch keeps, at an equal context
-pub carried : (r q : Scope) (nodes : Nodes) (s t : Trees) (before : Outcome → Type 0) (bound fuel : ℕ) (made : Fresh) (st : State) (fs : List Frame) → q ≡ r → Steps r nodes s before bound t fuel made st fs → (out : Outcome) → before out → Means q nodes t fuel made st fs out
-carried r q nodes s t before bound fuel made st fs e k out m = subst (λ (b : Scope). Means b nodes t fuel made st fs out) (sym e) (k.means out m)
+-- the phrase is one of the nodes, and the numbers in a head that is known, and in the arguments, are numbers of the store
+module _ (c : Scope) (nodes : Nodes) (s : Trees) (fuel : ℕ) (fresh : Fresh) (u : Use) (i : PhraseId) (h : value.Value) (done : List value.Value) (levels : ℕ) (fs : List Frame) (out : Outcome) where
+  pub phrase_in : ArgumentsMean c nodes s fuel fresh u i h done levels fs out → i.0 < length nodes.phrases
+  phrase_in (p, f, xs, v, vs, rest, isp, isv, all, few, phrases, res) = let n = node_of nodes i (used u p f xs) isp in slice_get_within nodes.phrases i.0 n.0 n.1
+
+  pub head_in : ArgumentsMean c nodes s fuel fresh u i h done levels fs out → IsIn s h
+  head_in (p, f, xs, v, vs, rest, isp, isv, all, few, phrases, res) = isv.0
+
+  pub arguments_in : ArgumentsMean c nodes s fuel fresh u i h done levels fs out → All (IsIn s) done
+  arguments_in (p, f, xs, v, vs, rest, isp, isv, all, few, phrases, res) = all.0

@@ -9,12 +9,12 @@ use Rattle.ath_terms.specs.declared.fresh.Fresh.{Fresh}
 use Rattle.ath_trees.specs.declared.node.Conn.{Conn}
 use Rattle.ath_trees.specs.Tree.{Term, Sent}
 use Rattle.ath_trees.specs.SortsIn.{sort_in}
-use Rattle.ath_terms.specs.Construction.{wanted, takes}
+use Rattle.ath_construction.specs.Construction.{Built, builds, refuses, made_app, made_equation, made_atom, made_connective, wanted, takes}
 use Rattle.ath_env.specs.Values.{Value, a_term, a_sentence, a_symbol, a_connective, a_quantifier, a_back, a_method, term_of}
 use Rattle.ath_print.specs.declared.fault.FaultKind.TheVariants.{ArgCount, WrongKind, NotApplicable, NotBuilt}
 use Rattle.ath_print.specs.Events.{number_named}
 use Rattle.ath_eval.specs.Outcomes.{Context, Environment, Left, Outcome, Evaluator, gives, fails, refusal}
-use Rattle.ath_eval.specs.Building.{Built, builds, refuses, made_app, made_equation, made_atom, made_connective}
+use Rattle.ath_eval.specs.Building.{told}
 
 -- this many arguments were wanted, and that many were given
 abbrev pub miscounted : ℕ → List Value → Pos → Left → Outcome
@@ -26,11 +26,11 @@ wrong_kind i at = fails at (refusal WrongKind (number_named i ∷ []))
 -- a term that is built, with its sort
 abbrev pub gives_term : Signature → Built Term → Pos → Left → Outcome
 gives_term sig (builds t) at = gives (a_term t (sort_in sig t))
-gives_term sig (refuses why) at = fails at why
+gives_term sig (refuses why) at = fails at (told why)
 
 abbrev pub gives_sentence : Built Sent → Pos → Left → Outcome
 gives_sentence (builds p) at = gives (a_sentence p)
-gives_sentence (refuses why) at = fails at why
+gives_sentence (refuses why) at = fails at (told why)
 
 -- what the values are, or the number of the first that is of another kind
 pub data Kinds (T : Type 0) : Type 0 where
@@ -62,16 +62,14 @@ symbol_applied sig d vs =
     else miscounted (length d.args) vs
 
 -- ---- an equation
-abbrev pub equation_of : Signature → List Term → Pos → Left → Outcome
-equation_of sig (s ∷ t ∷ []) = gives_sentence (made_equation sig s t)
-equation_of sig ts = λ at. fails at (refusal NotBuilt [])
-
-abbrev pub equation_to : Signature → Kinds Term → Pos → Left → Outcome
-equation_to sig (wrong_at i) = wrong_kind i
-equation_to sig (all_are ts) = equation_of sig ts
+abbrev pub equation_to : Signature → Option Term → Option Term → Pos → Left → Outcome
+equation_to sig None t = wrong_kind 1
+equation_to sig (Some s) None = wrong_kind 2
+equation_to sig (Some s) (Some t) = gives_sentence (made_equation sig s t)
 
 abbrev pub equated : Signature → List Value → Pos → Left → Outcome
-equated sig vs = if length vs == 2 then equation_to sig (kinds_of term_of 1 vs) else miscounted 2 vs
+equated sig (v ∷ w ∷ []) = equation_to sig (term_of v) (term_of w)
+equated sig vs = miscounted 2 vs
 
 -- ---- a connective: its parts are terms and sentences, and each term is made an atom first, from the left
 pub data Part : Type 0 where

@@ -1,17 +1,15 @@
 -- Values as the arguments of calls, and the parts of an implication.
-use Rattle.std.specs.Prelude.{ℕ, ◌≡◌, ◌<◌, ◌+◌, true, List, [], ◌∷◌, ◌++◌, Option, Some, None, length, map}
+use Rattle.std.specs.Prelude.{ℕ, ◌≡◌, ◌<◌, ◌+◌, List, ◌∷◌, ◌++◌, Option, Some, None, length, map}
 use Rattle.ath_sorts.specs.declared.signature.Symbol.{Symbol}
 use Rattle.ath_trees.specs.declared.node.TermId.{TermId}
 use Rattle.ath_trees.specs.declared.node.SentId.{SentId}
 use Rattle.ath_trees.specs.declared.node.Binary.TheVariants.{If}
-use Rattle.ath_trees.specs.Tree.{Sent, atom, joined}
+use Rattle.ath_trees.specs.Tree.{Sent, joined}
 use Rattle.ath_terms.specs.Trees.{Trees, term_at, sent_at}
-use Rattle.ath_trees.specs.Measure.{IsSmall}
-use Rattle.ath_trees.specs.Under.{has_no_binder}
 use Rattle.ath_env.specs.declared.value.Value as value
 use Rattle.ath_env.specs.declared.value.Value.TheVariants as code
-use Rattle.ath_env.specs.Values.{Value, a_term, a_sentence, a_symbol, a_connective, a_quantifier, a_back, a_method}
-use Rattle.ath_env.specs.Stands.{IsIn, value_at, IsValue}
+use Rattle.ath_env.specs.Values.{Value}
+use Rattle.ath_env.specs.Stands.{IsIn, value_at}
 use Rattle.ath_eval.specs.declared.kinds.Part.{Part as Piece}
 use Rattle.ath_eval.specs.declared.kinds.Part.TheVariants as piece
 use Rattle.ath_eval.specs.declared.kinds.Parts.{Parts}
@@ -19,30 +17,6 @@ use Rattle.ath_eval.specs.declared.kinds.Parts.TheVariants as parts
 use Rattle.ath_eval.specs.declared.kinds.Terms.{Terms}
 use Rattle.ath_eval.specs.declared.kinds.Terms.TheVariants as terms
 use Rattle.ath_eval.specs.Applying.{Part, term_part, sentence_part}
-
--- the term or the sentence that a value is, is within the limits, and has no quantifier: none is built yet
-abbrev pub IsSmallValue : Value → Type 0
-IsSmallValue (a_term t r) = IsSmall (atom t)
-IsSmallValue (a_sentence p) = IsSmall p × (has_no_binder p ≡ true)
-IsSmallValue (a_symbol f) = Unit {0}
-IsSmallValue (a_connective c) = Unit {0}
-IsSmallValue (a_quantifier q) = Unit {0}
-IsSmallValue a_back = Unit {0}
-IsSmallValue (a_method n) = Unit {0}
-
--- a value within the limits
-abbrev pub IsArgument : Trees → value.Value → Value → Type 0
-IsArgument s v x = IsValue s v x × IsSmallValue x
-
--- the same of the tree that the value stands for
-abbrev pub IsGood : Trees → value.Value → Type 0
-IsGood s v = IsIn s v × IsSmallValue (value_at s v)
-
-abbrev pub AreArguments : Trees → List value.Value → List Value → Type 0
-AreArguments s [] [] = Unit {0}
-AreArguments s (v ∷ vs) (x ∷ xs) = IsArgument s v x × AreArguments s vs xs
-AreArguments s [] (x ∷ xs) = ⊥
-AreArguments s (v ∷ vs) [] = ⊥
 
 -- the numbers of the parts of an implication, where it is one
 abbrev pub AreParts : Trees → Sent → Option (SentId × SentId) → Type 0
@@ -80,8 +54,8 @@ MatchParts vs (parts.All ps) = vs ≡ map piece_value ps.items
 MatchParts vs (parts.Wrong i) =
     (ps : List Piece) × (v : value.Value) × (rest : List value.Value) × (vs ≡ map piece_value ps ++ v ∷ rest) × IsNoPiece v × (i ≡ length ps + 1)
 
-abbrev pub IsGoodPiece : Trees → Piece → Type 0
-IsGoodPiece s p = IsGood s (piece_value p)
+abbrev pub IsPieceIn : Trees → Piece → Type 0
+IsPieceIn s p = IsIn s (piece_value p)
 
 -- the number of arguments of a symbol, where it is declared
 abbrev pub wanted_by : Option Symbol → Option ℕ

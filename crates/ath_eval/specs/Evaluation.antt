@@ -10,6 +10,7 @@ use Rattle.ath_syntax.specs.Places.{place}
 use Rattle.ath_syntax.specs.Tree.{Phrase, name_at, variable_at, string_at, list_at, ascribe_at, apply_at, call_at, lambda_at, method_at, let_at, letrec_at, match_at, check_at, try_at, seq_at, assume_at, absurd_at, pick_any_at, pick_witness_at, induct_at, cases_at, conclude_at}
 use Rattle.ath_syntax.specs.declared.node.SortText.{SortText}
 use Rattle.ath_declarations.specs.Texts.{meaning}
+use Rattle.ath_construction.specs.Construction.{made_ascription}
 use Rattle.ath_trees.specs.Tree.{Term, var}
 use Rattle.ath_env.specs.Values.{Value, a_term, term_of}
 use Rattle.ath_env.specs.LookUp.{looked_up}
@@ -17,7 +18,6 @@ use Rattle.ath_print.specs.declared.fault.FaultKind.TheVariants.{Unbound, TooNes
 use Rattle.ath_print.specs.declared.fault.FaultKind.TheVariants as kind
 use Rattle.ath_print.specs.Events.{Refusal, name_named}
 use Rattle.ath_eval.specs.Outcomes.{Context, Environment, Left, Outcome, gives, fails, refusal, Evaluator, spending, and_then, each}
-use Rattle.ath_eval.specs.Building.{made_ascription}
 use Rattle.ath_eval.specs.Applying.{applied, value_named, wrong_kind, gives_term}
 use Rattle.ath_eval.specs.Methods.{called}
 

@@ -44,16 +44,18 @@ ValuesAreSorted =
     → AreDerivable c.theory asserted hyps (sentences env.base) → evaluated c levels env x left ≡ gives v after
     → IsSortedValue c.theory.signature v
 
--- with more fuel, an outcome that isn't exhausted is the same, and as much more is left
+-- so much more fuel is left
 abbrev pub more_left : ℕ → Left → Left
 more_left k left = record left { fuel = left.fuel + k }
 
+-- the same outcome, after which so much more fuel is left; where it is exhausted nothing is
 abbrev pub with_more : ℕ → Outcome → Outcome
 with_more k (gives v left) = gives v (more_left k left)
 with_more k (concludes p left) = concludes p (more_left k left)
 with_more k (fails at why left) = fails at why (more_left k left)
 with_more k (exhausts at made) = exhausts at made
 
+-- with more fuel, an outcome that isn't exhausted is the same, and as much more is left
 abbrev pub MoreFuel : Type 0
 MoreFuel =
     (c : Context) (env : Environment) (levels : ℕ) (x : Phrase) (k : ℕ) (left : Left)
@@ -61,27 +63,27 @@ MoreFuel =
     → evaluated c levels env x (more_left k left) ≡ with_more k (evaluated c levels env x left)
 
 -- fuel never rises, and the counters never fall
-abbrev pub Moves : Left → Outcome → Type 0
-Moves left (gives v after) = (after.fuel ≤ left.fuel) × (left.fresh.var ≤ after.fresh.var) × (left.fresh.sort ≤ after.fresh.sort)
-Moves left (concludes p after) = (after.fuel ≤ left.fuel) × (left.fresh.var ≤ after.fresh.var) × (left.fresh.sort ≤ after.fresh.sort)
-Moves left (fails at why after) = (after.fuel ≤ left.fuel) × (left.fresh.var ≤ after.fresh.var) × (left.fresh.sort ≤ after.fresh.sort)
-Moves left (exhausts at made) = (left.fresh.var ≤ made.var) × (left.fresh.sort ≤ made.sort)
+abbrev pub Spends : Left → Outcome → Type 0
+Spends left (gives v after) = (after.fuel ≤ left.fuel) × (left.fresh.var ≤ after.fresh.var) × (left.fresh.sort ≤ after.fresh.sort)
+Spends left (concludes p after) = (after.fuel ≤ left.fuel) × (left.fresh.var ≤ after.fresh.var) × (left.fresh.sort ≤ after.fresh.sort)
+Spends left (fails at why after) = (after.fuel ≤ left.fuel) × (left.fresh.var ≤ after.fresh.var) × (left.fresh.sort ≤ after.fresh.sort)
+Spends left (exhausts at made) = (left.fresh.var ≤ made.var) × (left.fresh.sort ≤ made.sort)
 
 abbrev pub FuelNeverRises : Type 0
-FuelNeverRises = (c : Context) (env : Environment) (levels : ℕ) (x : Phrase) (left : Left) → Moves left (evaluated c levels env x left)
+FuelNeverRises = (c : Context) (env : Environment) (levels : ℕ) (x : Phrase) (left : Left) → Spends left (evaluated c levels env x left)
 
 -- the counters stay within these bounds, also when each step that is left takes all that it may
-abbrev pub IsWithin : Fresh → Outcome → Type 0
-IsWithin bound (gives v left) = IsBelow (charged left.fuel left.fresh) bound
-IsWithin bound (concludes p left) = IsBelow (charged left.fuel left.fresh) bound
-IsWithin bound (fails at why left) = IsBelow (charged left.fuel left.fresh) bound
-IsWithin bound (exhausts at made) = IsBelow made bound
+abbrev pub StaysWithin : Fresh → Outcome → Type 0
+StaysWithin bound (gives v left) = IsBelow (charged left.fuel left.fresh) bound
+StaysWithin bound (concludes p left) = IsBelow (charged left.fuel left.fresh) bound
+StaysWithin bound (fails at why left) = IsBelow (charged left.fuel left.fresh) bound
+StaysWithin bound (exhausts at made) = IsBelow made bound
 
 -- a step takes few of either
 abbrev pub StepsTakeFew : Type 0
 StepsTakeFew =
     (c : Context) (env : Environment) (levels : ℕ) (x : Phrase) (left : Left) (bound : Fresh) → IsNarrow c.theory.signature
-    → IsBelow (charged left.fuel left.fresh) bound → IsWithin bound (evaluated c levels env x left)
+    → IsBelow (charged left.fuel left.fresh) bound → StaysWithin bound (evaluated c levels env x left)
 
 -- what is well-sorted in the one theory, or derivable in it, is so in the other
 pub record Carries (old new : Theory) : Type 0 where

@@ -1,6 +1,5 @@
 pub mod Applying
 pub mod Arguments
-pub mod Base
 pub mod Building
 pub mod Evaluation
 pub mod Laws
@@ -8,6 +7,7 @@ pub mod Machine
 pub mod Methods
 pub mod Outcomes
 pub mod Room
-pub mod Settings
+pub mod Sorted
 pub mod Stands
+pub mod Stretches
 pub mod World

@@ -7,25 +7,26 @@ use Rattle.ath_syntax.specs.declared.node.Node.{Node}
 use Rattle.ath_syntax.specs.Fits.{most}
 use Rattle.ath_syntax.specs.Nodes.{Nodes}
 use Rattle.ath_syntax.specs.Stands.{IsPhrase, ArePhrases}
-use Rattle.ath_syntax.specs.Tree.{Phrase, ascribe_at, apply_at, call_at, Phrases, no_phrases}
+use Rattle.ath_syntax.specs.Tree.{Phrase, ascribe_at, apply_at, call_at, Phrases}
 use Rattle.ath_syntax.specs.declared.place.Pos.{Pos}
 use Rattle.ath_syntax.specs.declared.node.SortText.{SortText}
 use Rattle.ath_terms.specs.declared.fresh.Fresh.{Fresh}
 use Rattle.ath_terms.specs.Trees.{Trees, Grows}
 use Rattle.ath_env.specs.declared.value.Value as value
 use Rattle.ath_env.specs.Values.{Value}
+use Rattle.ath_env.specs.Stands.{IsValue, AreValues}
 use Rattle.ath_eval.specs.declared.frame.Frame.{Frame}
 use Rattle.ath_eval.specs.declared.frame.Frame.TheVariants.{Head, Argument, Ascription}
 use Rattle.ath_eval.specs.declared.frame.State.{State}
+use Rattle.ath_eval.specs.declared.frame.Use.{Use}
+use Rattle.ath_eval.specs.declared.frame.Use.TheVariants as uses
 use Rattle.ath_eval.specs.declared.frame.State.TheVariants.{Enter, Done}
 use Rattle.ath_eval.specs.declared.world.Outcome as code
 use Rattle.ath_eval.specs.declared.world.Outcome.TheVariants as ends
-use Rattle.ath_eval.specs.Arguments.{IsArgument, AreArguments}
 use Rattle.ath_eval.specs.Outcomes.{Context, Environment, Left, left_of, Outcome, and_then, each}
 use Rattle.ath_eval.specs.Applying.{applied}
 use Rattle.ath_eval.specs.Methods.{called}
-use Rattle.ath_eval.specs.Evaluation.{evaluated, form, unbuilt, ascribed}
-use Rattle.ath_syntax.specs.Places.{place}
+use Rattle.ath_eval.specs.Evaluation.{evaluated, form, ascribed}
 use Rattle.ath_eval.specs.World.{IsOutcome}
 
 -- what an evaluation reads at a place
@@ -40,16 +41,15 @@ evaluates c levels = evaluated c.context levels c.environment
 abbrev pub forms : Scope → ℕ → Phrase → Left → Outcome
 forms c levels = form c.context (evaluated c.context levels) c.environment
 
--- what becomes of the head and the arguments of an application or a call
-abbrev pub acts : Scope → ℕ → Phrase → Value → List Value → Left → Outcome
-acts c levels (apply_at p f xs) v vs = applied c.context (evaluated c.context levels) c.environment v vs p
-acts c levels (call_at p f xs) v vs = called c.context (evaluated c.context levels) c.environment v vs p
-acts c levels x v vs = unbuilt (place x)
+-- an application or a call of a head with arguments
+abbrev pub used : Use → Pos → Phrase → Phrases → Phrase
+used uses.Apply p f xs = apply_at p f xs
+used uses.Call p f xs = call_at p f xs
 
-abbrev pub arguments : Phrase → Phrases
-arguments (apply_at p f xs) = xs
-arguments (call_at p f xs) = xs
-arguments x = no_phrases
+-- what becomes of the head and the arguments
+abbrev pub acts : Scope → ℕ → Use → Pos → Value → List Value → Left → Outcome
+acts c levels uses.Apply p v vs = applied c.context (evaluated c.context levels) c.environment v vs p
+acts c levels uses.Call p v vs = called c.context (evaluated c.context levels) c.environment v vs p
 
 -- the numbers of the arguments
 abbrev pub form_arguments : Form → List PhraseId
@@ -66,11 +66,11 @@ arguments_at nodes i = node_arguments (slice_get nodes.phrases i.0)
 
 -- the frame makes this outcome of its part's outcome
 abbrev pub Fills : Scope → Nodes → Trees → Frame → Outcome → Outcome → Type 0
-Fills c nodes s (Head i levels) r out =
-    (x : Phrase) × IsPhrase nodes i x × (out ≡ and_then r (λ v. each (evaluates c levels) [] (arguments x) (acts c levels x v)))
-Fills c nodes s (Argument i h done levels) r out =
-    (x : Phrase) × (v : Value) × (vs : List Value) × (rest : Phrases) × IsPhrase nodes i x × IsArgument s h v × AreArguments s done vs × (length done < most) × ArePhrases nodes (drop (length done + 1) (arguments_at nodes i)) rest
-    × (out ≡ and_then r (λ w. each (evaluates c levels) (vs ++ w ∷ []) rest (acts c levels x v)))
+Fills c nodes s (Head u i levels) r out =
+    (p : Pos) × (f : Phrase) × (xs : Phrases) × IsPhrase nodes i (used u p f xs) × (out ≡ and_then r (λ v. each (evaluates c levels) [] xs (acts c levels u p v)))
+Fills c nodes s (Argument u i h done levels) r out =
+    (p : Pos) × (f : Phrase) × (xs : Phrases) × (v : Value) × (vs : List Value) × (rest : Phrases) × IsPhrase nodes i (used u p f xs) × IsValue s h v × AreValues s done vs × (length done < most) × ArePhrases nodes (drop (length done + 1) (arguments_at nodes i)) rest
+    × (out ≡ and_then r (λ w. each (evaluates c levels) (vs ++ w ∷ []) rest (acts c levels u p v)))
 Fills c nodes s (Ascription i) r out =
     (p : Pos) × (x : Phrase) × (text : SortText) × IsPhrase nodes i (ascribe_at p x text) × (out ≡ and_then r (λ v. ascribed c.context text v p))
 
@@ -91,7 +91,7 @@ abbrev pub rank : State → ℕ
 rank (Enter i levels) = 1
 rank (Done (ends.Value v)) = 2
 rank (Done (ends.Theorem p)) = 2
-rank (Done (ends.Error at why)) = 2
+rank (Done (ends.Error why at)) = 2
 rank (Done (ends.Exhausted at)) = 0
 
 abbrev pub weight : ℕ → State → List Frame → ℕ
@@ -109,15 +109,15 @@ FormMeans c nodes s fuel fresh i levels fs out =
     (x : Phrase) × IsPhrase nodes i x × Resumes c nodes s fs (forms c levels x (left_of fuel fresh)) out
 
 -- the head is known, and all the arguments
-abbrev pub ActMeans : Scope → Nodes → Trees → ℕ → Fresh → PhraseId → value.Value → List value.Value → ℕ → List Frame → Outcome → Type 0
-ActMeans c nodes s fuel fresh i h args levels fs out =
-    (x : Phrase) × (v : Value) × (vs : List Value) × IsPhrase nodes i x × IsArgument s h v × AreArguments s args vs × Resumes c nodes s fs (acts c levels x v vs (left_of fuel fresh)) out
+abbrev pub ActMeans : Scope → Nodes → Trees → ℕ → Fresh → Use → PhraseId → value.Value → List value.Value → ℕ → List Frame → Outcome → Type 0
+ActMeans c nodes s fuel fresh u i h args levels fs out =
+    (p : Pos) × (f : Phrase) × (xs : Phrases) × (v : Value) × (vs : List Value) × IsPhrase nodes i (used u p f xs) × IsValue s h v × AreValues s args vs × Resumes c nodes s fs (acts c levels u p v vs (left_of fuel fresh)) out
 
 -- the head is known, and these arguments
-abbrev pub ArgumentsMean : Scope → Nodes → Trees → ℕ → Fresh → PhraseId → value.Value → List value.Value → ℕ → List Frame → Outcome → Type 0
-ArgumentsMean c nodes s fuel fresh i h done levels fs out =
-    (x : Phrase) × (v : Value) × (vs : List Value) × (rest : Phrases) × IsPhrase nodes i x × IsArgument s h v × AreArguments s done vs × (length done ≤ most) × ArePhrases nodes (drop (length done) (arguments_at nodes i)) rest
-    × Resumes c nodes s fs (each (evaluates c levels) vs rest (acts c levels x v) (left_of fuel fresh)) out
+abbrev pub ArgumentsMean : Scope → Nodes → Trees → ℕ → Fresh → Use → PhraseId → value.Value → List value.Value → ℕ → List Frame → Outcome → Type 0
+ArgumentsMean c nodes s fuel fresh u i h done levels fs out =
+    (p : Pos) × (f : Phrase) × (xs : Phrases) × (v : Value) × (vs : List Value) × (rest : Phrases) × IsPhrase nodes i (used u p f xs) × IsValue s h v × AreValues s done vs × (length done ≤ most) × ArePhrases nodes (drop (length done) (arguments_at nodes i)) rest
+    × Resumes c nodes s fs (each (evaluates c levels) vs rest (acts c levels u p v) (left_of fuel fresh)) out
 
 -- a frame has been taken off, and gets an outcome
 abbrev pub FrameMeans : Scope → Nodes → Trees → ℕ → Fresh → code.Outcome → Frame → List Frame → Outcome → Type 0

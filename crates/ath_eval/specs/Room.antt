@@ -13,7 +13,7 @@ most_taken = 4194304
 abbrev pub charged : ℕ → Fresh → Fresh
 charged steps fresh = record { var = fresh.var + most_taken * steps; sort = fresh.sort + most_taken * steps }
 
--- no counter is above another's
+-- each counter is at most that of the bound
 abbrev pub IsBelow : Fresh → Fresh → Type 0
 IsBelow fresh bound = (fresh.var ≤ bound.var) × (fresh.sort ≤ bound.sort)
 

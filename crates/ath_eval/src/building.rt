@@ -3,10 +3,10 @@
 ghost use Rattle.std.specs.Prelude.{IfOk};
 ghost use Rattle.ath_sorts.specs.Signature.{Signature as Declared};
 ghost use Rattle.ath_trees.specs.Tree.{Term, Sent};
+ghost use Rattle.ath_construction.specs.Answers.{IsTermBuilt, IsSentBuilt};
+ghost use Rattle.ath_construction.specs.Construction.{Built};
 ghost use Rattle.ath_terms.specs.Trees.{Trees};
 ghost use Rattle.ath_eval.specs.Applying.{gives_term, gives_sentence};
-ghost use Rattle.ath_eval.specs.Building.{Built};
-ghost use Rattle.ath_eval.specs.Stands.{IsTermBuilt, IsSentBuilt};
 ghost use Rattle.ath_eval.specs.World.{IsSteady};
 
 use crate::refusals::unbuilt;

@@ -5,13 +5,20 @@ use ath_env::Value;
 use ath_syntax::PhraseId;
 use sqlite_items::Items;
 
+/// The two forms that have a head and arguments.
+#[derive(Clone, Copy, Debug)]
+pub(crate) enum Use {
+    Apply,
+    Call,
+}
+
 /// What waits for the outcome of a part: an application, a call or an ascription, and the levels that its parts have.
 #[derive(Debug, Drop)]
 pub(crate) enum Frame {
     /// waits for its head
-    Head(PhraseId, u32),
+    Head(Use, PhraseId, u32),
     /// waits for an argument; the head's value, and those of the arguments that are done
-    Argument(PhraseId, Value, Items<Value>, u32),
+    Argument(Use, PhraseId, Value, Items<Value>, u32),
     /// waits for the value that is ascribed a sort
     Ascription(PhraseId),
 }

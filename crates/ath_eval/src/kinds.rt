@@ -1,6 +1,9 @@
 // The kinds of arguments.
 
-ghost use Rattle.std.specs.Prelude.{IfOk};
+ghost use Rattle.std.specs.Prelude.{◌≡◌, IfOk, IfSome, option_map};
+ghost use Rattle.ath_terms.specs.Trees.{Trees, term_at};
+ghost use Rattle.ath_env.specs.Stands.{value_at};
+ghost use Rattle.ath_env.specs.Values.{term_of};
 ghost use Rattle.ath_eval.specs.Arguments.{MatchTerms, MatchPiece, MatchParts};
 
 use ath_env::Value;
@@ -26,6 +29,22 @@ pub(crate) enum Part {
 pub(crate) enum Parts {
     All(Vec<Part>),
     Wrong(u64),
+}
+
+/// The term that a value is, where it is one.
+pub(crate) fn as_term(value: Value) -> Option<TermId>
+    ensures same { IfSome result (λ t. value ≡ Value.Term t) }
+    ensures term { (s : Trees) → term_of (value_at s value) ≡ option_map (λ t. term_at s.terms t.0) result }
+{
+    match value {
+        Value::Term(t) => Some(t),
+        Value::Sent(_) => None,
+        Value::Symbol(_) => None,
+        Value::Conn(_) => None,
+        Value::Quant(_) => None,
+        Value::Back => None,
+        Value::PrimMethod(_) => None,
+    }
 }
 
 /// The terms that the arguments are.

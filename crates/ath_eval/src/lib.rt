@@ -12,7 +12,6 @@ mod methods;
 mod names;
 mod parts;
 mod refusals;
-mod setting;
 mod symbols;
 pub mod world;
 

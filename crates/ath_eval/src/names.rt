@@ -1,56 +1,40 @@
 // Names, variables and ascriptions.
 
-ghost use Rattle.std.specs.Prelude.{◌≡◌, ◌<◌, ◌≤◌, IfOk, Some, true};
-ghost use Rattle.ath_sorts.specs.Signature.{Signature as Declared, symbol_of};
-ghost use Rattle.ath_terms.specs.Trees.{Trees, Grows};
-ghost use Rattle.ath_terms.specs.SortsIn.{IsSortedIn};
+ghost use Rattle.std.specs.Prelude.{◌≡◌, IfOk, Option, Some, None, true};
+ghost use Rattle.ath_sorts.specs.Signature.{symbol_of};
+ghost use Rattle.ath_syntax.specs.declared.node.SortText.{SortText as Text};
+ghost use Rattle.ath_syntax.specs.declared.place.Pos.{Pos as Place};
 ghost use Rattle.ath_trees.specs.WellSorted.{is_valid_sort};
 ghost use Rattle.ath_env.specs.LookUp.{looked_up};
-ghost use Rattle.ath_env.specs.Values.{Value as Tree};
-ghost use Rattle.ath_env.specs.Stands.{IsValue, value_at};
+ghost use Rattle.ath_env.specs.Stands.{IsIn, value_at};
 ghost use Rattle.ath_eval.specs.Applying.{symbol_named, value_named};
-ghost use Rattle.ath_eval.specs.Arguments.{IsSmallValue, IsArgument, IsGood};
 ghost use Rattle.ath_eval.specs.Evaluation as evaluation;
-ghost use Rattle.ath_eval.specs.Outcomes.{Context};
-ghost use Rattle.ath_eval.specs.Room.{charged, IsBelow, IsNarrow, IsRoomy};
-ghost use Rattle.ath_eval.specs.World.{IsAnswer, IsSteady};
+ghost use Rattle.ath_eval.specs.Stands.{IsMeant, AreMeant};
+ghost use Rattle.ath_eval.specs.World.{IsAnswerIn, IsSteady, Works, Rests, HasRoom, context_of};
 
 use crate::building::term_made;
 use crate::refusals::{bad_sort, numbered, unbound};
-use crate::setting::Setting;
 use crate::symbols::{apply_declared, arguments_wanted};
-use crate::world::Outcome;
+use crate::world::{Outcome, World};
 use ath_declarations::sort_of_text;
 use ath_env::{Value, look_up};
 use ath_print::FaultKind;
-use ath_sorts::{Signature, Sort, Sym};
+use ath_sorts::{SigError, Signature, Sort, Sym};
 use ath_syntax::{Pos, SortText};
-use ath_terms::{Fresh, Store};
 use ath_trees::{TermId, Var};
 use std::alloc::{AllocError, Global};
 
 /// The value of a symbol's name. A symbol without arguments is applied to none.
-fn name_symbol(
-    alloc: Global,
-    sig: &Signature,
-    store: &mut Store,
-    fresh: &mut Fresh,
-    f: Sym,
-    at: Pos,
-) -> Result<Outcome, AllocError>
-    requires sorted { IsSortedIn sig.now store.old }
-    requires narrow { IsNarrow sig.now }
-    requires counters { IsRoomy 0 fresh.old }
-    ensures grows { Grows store.old store.new }
-    ensures sorted { IsSortedIn sig.now store.new }
-    ensures room { IsBelow fresh.new (charged 1 fresh.old) }
-    ensures outcome { IfOk result (λ o. IsAnswer store.new fresh.old fresh.new o (symbol_named sig.now f (symbol_of sig.now f) at)) }
+fn name_symbol(alloc: Global, w: &mut World, f: Sym, at: Pos) -> Result<Outcome, AllocError>
+    requires { HasRoom w.old }
+    ensures works { Works w.old w.new }
+    ensures outcome { IfOk result (λ o. IsAnswerIn w.old w.new o (symbol_named w.old.sig f (symbol_of w.old.sig f) at)) }
 {
-    match arguments_wanted(sig, f) {
+    match arguments_wanted(&w.sig, f) {
         None => Ok(Outcome::Value(Value::Symbol(f))),
         Some(want) => {
             if want == 0 {
-                let outcome = apply_declared(alloc, sig, store, fresh, f, 0, &[], at)?;
+                let outcome = apply_declared(alloc, w, f, 0, &[], at)?;
                 return Ok(outcome);
             }
             Ok(Outcome::Value(Value::Symbol(f)))
@@ -59,25 +43,15 @@ fn name_symbol(
 }
 
 /// The value of a name that finds this value.
-fn name_value(
-    alloc: Global,
-    sig: &Signature,
-    store: &mut Store,
-    fresh: &mut Fresh,
-    value: Value,
-    at: Pos,
-) -> Result<Outcome, AllocError>
-    requires sorted { IsSortedIn sig.now store.old }
-    requires narrow { IsNarrow sig.now }
-    requires counters { IsRoomy 0 fresh.old }
-    ensures grows { Grows store.old store.new }
-    ensures sorted { IsSortedIn sig.now store.new }
-    ensures room { IsBelow fresh.new (charged 1 fresh.old) }
-    ensures outcome { IfOk result (λ o. (c : Context) (v : Tree) → c.theory.signature ≡ sig.now → IsArgument store.old value v → IsAnswer store.new fresh.old fresh.new o (value_named c v at)) }
+fn name_value(alloc: Global, w: &mut World, value: Value, at: Pos) -> Result<Outcome, AllocError>
+    requires room { HasRoom w.old }
+    requires value { IsIn w.old.store value }
+    ensures works { Works w.old w.new }
+    ensures outcome { IfOk result (λ o. IsAnswerIn w.old w.new o (value_named (context_of w.old) (value_at w.old.store value) at)) }
 {
     match value {
         Value::Symbol(f) => {
-            let outcome = name_symbol(alloc, sig, store, fresh, f, at)?;
+            let outcome = name_symbol(alloc, w, f, at)?;
             Ok(outcome)
         }
         other => Ok(Outcome::Value(other)),
@@ -85,25 +59,14 @@ fn name_value(
 }
 
 /// The value of a name.
-pub(crate) fn find(
-    alloc: Global,
-    set: &Setting<'_>,
-    store: &mut Store,
-    fresh: &mut Fresh,
-    name: Sym,
-    at: Pos,
-) -> Result<Outcome, AllocError>
-    requires sorted { IsSortedIn set.now.sig.now store.old }
-    requires narrow { IsNarrow set.now.sig.now }
-    requires counters { IsRoomy 0 fresh.old }
-    ensures grows { Grows store.old store.new }
-    ensures sorted { IsSortedIn set.now.sig.now store.new }
-    ensures room { IsBelow fresh.new (charged 1 fresh.old) }
-    ensures outcome { IfOk result (λ o. (c : Context) → c.theory.signature ≡ set.now.sig.now → IsAnswer store.new fresh.old fresh.new o (evaluation.found c name at (looked_up set.now.names.now set.now.sig.now name))) }
+pub(crate) fn find(alloc: Global, w: &mut World, name: Sym, at: Pos) -> Result<Outcome, AllocError>
+    requires { HasRoom w.old }
+    ensures works { Works w.old w.new }
+    ensures outcome { IfOk result (λ o. IsAnswerIn w.old w.new o (evaluation.found (context_of w.old) name at (looked_up w.old.names w.old.sig name))) }
 {
-    match look_up(set.names, set.sig, name) {
+    match look_up(&w.names, &w.sig, name) {
         Some(value) => {
-            let outcome = name_value(alloc, set.sig, store, fresh, value, at)?;
+            let outcome = name_value(alloc, w, value, at)?;
             Ok(outcome)
         }
         None => {
@@ -116,39 +79,53 @@ pub(crate) fn find(
 /// A variable of this sort.
 fn variable_of(
     alloc: Global,
-    store: &mut Store,
+    w: &mut World,
     name: Sym,
     index: u64,
     sort: Sort,
 ) -> Result<Outcome, AllocError>
-    ensures grows { Grows store.old store.new }
-    ensures sorted { (sig : Declared) → IsSortedIn sig store.old → is_valid_sort sig sort ≡ true → IsSortedIn sig store.new }
-    ensures outcome { IfOk result (λ o. IsSteady store.new o (evaluation.variable_of name index sort)) }
+    requires { is_valid_sort w.old.sig sort ≡ true }
+    ensures rests { Rests w.old w.new }
+    ensures outcome { IfOk result (λ o. IsSteady w.new.store o (evaluation.variable_of name index sort)) }
 {
-    match store.var(alloc, &Var { name, index, sort }) {
+    match w.store.var(alloc, &Var { name, index, sort }) {
         Ok(t) => Ok(Outcome::Value(Value::Term(t))),
         Err(_memory) => Err(AllocError),
     }
 }
 
+/// A variable without a sort has the next made sort variable.
+fn unsorted_variable(
+    alloc: Global,
+    w: &mut World,
+    name: Sym,
+    index: u64,
+) -> Result<Outcome, AllocError>
+    requires { HasRoom w.old }
+    ensures works { Works w.old w.new }
+    ensures outcome { IfOk result (λ o. (at : Place) → IsAnswerIn w.old w.new o (evaluation.variable (context_of w.old) name index None at)) }
+{
+    let sort = Sort::Var(w.fresh.sort_var());
+    let outcome = variable_of(alloc, w, name, index, sort)?;
+    Ok(outcome)
+}
+
 /// A variable of the sort that a text means.
 fn sorted_variable(
     alloc: Global,
-    sig: &Signature,
-    store: &mut Store,
+    w: &mut World,
     name: Sym,
     index: u64,
-    text: &SortText,
+    meant: Result<Sort, SigError>,
     at: Pos,
 ) -> Result<Outcome, AllocError>
-    requires sorted { IsSortedIn sig.now store.old }
-    ensures grows { Grows store.old store.new }
-    ensures sorted { IsSortedIn sig.now store.new }
-    ensures outcome { IfOk result (λ o. (c : Context) → c.theory.signature ≡ sig.now → IsSteady store.new o (evaluation.variable c name index (Some text.now) at)) }
+    requires { (text : Text) × IsMeant w.old.sig text meant }
+    ensures rests { Rests w.old w.new }
+    ensures outcome { IfOk result (λ o. (text : Text) → IsMeant w.old.sig text meant → IsSteady w.new.store o (evaluation.variable (context_of w.old) name index (Some text) at)) }
 {
-    match sort_of_text(alloc, sig, text) {
+    match meant {
         Ok(sort) => {
-            let outcome = variable_of(alloc, store, name, index, sort)?;
+            let outcome = variable_of(alloc, w, name, index, sort)?;
             Ok(outcome)
         }
         Err(error) => {
@@ -158,55 +135,62 @@ fn sorted_variable(
     }
 }
 
-/// A variable as it is written. Without a sort it has the next made sort variable.
-pub(crate) fn variable(
+/// What the sort of a variable means, where one is written.
+pub(crate) fn written_sort(
     alloc: Global,
     sig: &Signature,
-    store: &mut Store,
-    fresh: &mut Fresh,
-    name: Sym,
-    index: u64,
     text: &Option<SortText>,
-    at: Pos,
-) -> Result<Outcome, AllocError>
-    requires sorted { IsSortedIn sig.now store.old }
-    requires counters { IsRoomy 0 fresh.old }
-    ensures grows { Grows store.old store.new }
-    ensures sorted { IsSortedIn sig.now store.new }
-    ensures room { IsBelow fresh.new (charged 1 fresh.old) }
-    ensures outcome { IfOk result (λ o. (c : Context) → c.theory.signature ≡ sig.now → IsAnswer store.new fresh.old fresh.new o (evaluation.variable c name index text.now at)) }
+) -> Option<Result<Sort, SigError>>
+    ensures { AreMeant sig.now text.now result }
 {
     match text {
+        None => None,
+        Some(text) => Some(sort_of_text(alloc, sig, text)),
+    }
+}
+
+/// A variable with its sort, where one is written.
+pub(crate) fn variable(
+    alloc: Global,
+    w: &mut World,
+    name: Sym,
+    index: u64,
+    sort: Option<Result<Sort, SigError>>,
+    at: Pos,
+) -> Result<Outcome, AllocError>
+    requires room { HasRoom w.old }
+    requires meant { (text : Option Text) × AreMeant w.old.sig text sort }
+    ensures works { Works w.old w.new }
+    ensures outcome { IfOk result (λ o. (text : Option Text) → AreMeant w.old.sig text sort → IsAnswerIn w.old w.new o (evaluation.variable (context_of w.old) name index text at)) }
+{
+    match sort {
         None => {
-            let sort = Sort::Var(fresh.sort_var());
-            let outcome = variable_of(alloc, store, name, index, sort)?;
+            let outcome = unsorted_variable(alloc, w, name, index)?;
             Ok(outcome)
         }
-        Some(text) => {
-            let outcome = sorted_variable(alloc, sig, store, name, index, text, at)?;
+        Some(meant) => {
+            let outcome = sorted_variable(alloc, w, name, index, meant, at)?;
             Ok(outcome)
         }
     }
 }
 
-/// A term with its sort made the text's.
+/// A term with its sort made the one that a text means.
 fn ascribe_term(
     alloc: Global,
-    sig: &Signature,
-    store: &mut Store,
+    w: &mut World,
     t: TermId,
-    text: &SortText,
+    meant: Result<Sort, SigError>,
     at: Pos,
 ) -> Result<Outcome, AllocError>
-    requires sorted { IsSortedIn sig.now store.old }
-    requires term { IsGood store.old (Value.Term t) }
-    ensures grows { Grows store.old store.new }
-    ensures sorted { IsSortedIn sig.now store.new }
-    ensures outcome { IfOk result (λ o. (c : Context) → c.theory.signature ≡ sig.now → IsSteady store.new o (evaluation.ascribed c text.now (value_at store.old (Value.Term t)) at)) }
+    requires meant { (text : Text) × IsMeant w.old.sig text meant }
+    requires term { IsIn w.old.store (Value.Term t) }
+    ensures rests { Rests w.old w.new }
+    ensures outcome { IfOk result (λ o. (text : Text) → IsMeant w.old.sig text meant → IsSteady w.new.store o (evaluation.ascribed (context_of w.old) text (value_at w.old.store (Value.Term t)) at)) }
 {
-    match sort_of_text(alloc, sig, text) {
+    match meant {
         Ok(sort) => {
-            let made = store.ascribe(alloc, t, &sort);
+            let made = ath_construction::ascribe(alloc, &mut w.store, t, &sort);
             let outcome = term_made(alloc, made, at)?;
             Ok(outcome)
         }
@@ -217,24 +201,22 @@ fn ascribe_term(
     }
 }
 
-/// A value that is ascribed the sort of a text.
+/// A value that is ascribed the sort that a text means.
 pub(crate) fn ascribe(
     alloc: Global,
-    sig: &Signature,
-    store: &mut Store,
+    w: &mut World,
     value: Value,
-    text: &SortText,
+    meant: Result<Sort, SigError>,
     at: Pos,
 ) -> Result<Outcome, AllocError>
-    requires sorted { IsSortedIn sig.now store.old }
-    requires value { IsGood store.old value }
-    ensures grows { Grows store.old store.new }
-    ensures sorted { IsSortedIn sig.now store.new }
-    ensures outcome { IfOk result (λ o. (c : Context) → c.theory.signature ≡ sig.now → IsSteady store.new o (evaluation.ascribed c text.now (value_at store.old value) at)) }
+    requires meant { (text : Text) × IsMeant w.old.sig text meant }
+    requires value { IsIn w.old.store value }
+    ensures rests { Rests w.old w.new }
+    ensures outcome { IfOk result (λ o. (text : Text) → IsMeant w.old.sig text meant → IsSteady w.new.store o (evaluation.ascribed (context_of w.old) text (value_at w.old.store value) at)) }
 {
     match value {
         Value::Term(t) => {
-            let outcome = ascribe_term(alloc, sig, store, t, text, at)?;
+            let outcome = ascribe_term(alloc, w, t, meant, at)?;
             Ok(outcome)
         }
         _other => {

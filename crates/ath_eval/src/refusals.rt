@@ -4,10 +4,12 @@ ghost use Rattle.std.specs.Prelude.{◌≡◌, ◌<◌, [], ◌∷◌, length, I
 ghost use Rattle.ath_sorts.specs.declared.signature.SigError.TheVariants as sort_error;
 ghost use Rattle.ath_terms.specs.Trees.{Trees, sent_at};
 ghost use Rattle.ath_terms.specs.declared.measure.BuildError.TheVariants as build_error;
+ghost use Rattle.ath_construction.specs.Construction.{Unbuilt};
 ghost use Rattle.ath_print.specs.declared.fault.FaultKind.TheVariants.{ArgCount, Unbound};
 ghost use Rattle.ath_print.specs.Events.{name_named, number_named};
 ghost use Rattle.ath_print.specs.Stands.{IsFault};
-ghost use Rattle.ath_eval.specs.Stands.{why_unbuilt, IsErrorIn};
+ghost use Rattle.ath_eval.specs.Building.{told};
+ghost use Rattle.ath_eval.specs.Stands.{IsWhy};
 ghost use Rattle.ath_eval.specs.Evaluation.{sort_refusal};
 ghost use Rattle.ath_eval.specs.Outcomes.{fails, refusal};
 ghost use Rattle.ath_eval.specs.Methods.{not_in_base};
@@ -25,7 +27,7 @@ use std::alloc::{AllocError, Global};
 pub(crate) fn bare(alloc: Global, kind: FaultKind, at: Pos) -> Outcome
     ensures { (s : Trees) → IsSteady s result (fails at (refusal kind [])) }
 {
-    Outcome::Error(at, Fault::plain(alloc, kind))
+    Outcome::Error(Fault::plain(alloc, kind), at)
 }
 
 /// An error that names a number.
@@ -38,7 +40,7 @@ pub(crate) fn numbered(
     ensures { IfOk result (λ o. (s : Trees) → IsSteady s o (fails at (refusal kind (number_named n ∷ [])))) }
 {
     let fault = Fault::naming(alloc, kind, FaultArg::Number(n))?;
-    Ok(Outcome::Error(at, fault))
+    Ok(Outcome::Error(fault, at))
 }
 
 /// This many arguments were wanted, and that many were given.
@@ -56,7 +58,7 @@ pub(crate) fn miscounted(
         FaultArg::Number(want),
         FaultArg::Number(given),
     )?;
-    Ok(Outcome::Error(at, fault))
+    Ok(Outcome::Error(fault, at))
 }
 
 /// The base lacks this sentence.
@@ -64,7 +66,7 @@ pub(crate) fn missing(alloc: Global, p: SentId, at: Pos) -> Result<Outcome, Allo
     ensures { IfOk result (λ o. (s : Trees) → p.0 < length s.sents → IsSteady s o (not_in_base (sent_at s.sents p.0) at)) }
 {
     let fault = Fault::naming(alloc, FaultKind::NotInBase, FaultArg::Sent(p))?;
-    Ok(Outcome::Error(at, fault))
+    Ok(Outcome::Error(fault, at))
 }
 
 /// A name that finds nothing.
@@ -72,7 +74,7 @@ pub(crate) fn unbound(alloc: Global, name: Sym, at: Pos) -> Result<Outcome, Allo
     ensures { IfOk result (λ o. (s : Trees) → IsSteady s o (fails at (refusal Unbound (name_named name ∷ [])))) }
 {
     let fault = Fault::naming(alloc, FaultKind::Unbound, FaultArg::Name(name))?;
-    Ok(Outcome::Error(at, fault))
+    Ok(Outcome::Error(fault, at))
 }
 
 /// Why a sort's text is refused.
@@ -96,12 +98,12 @@ pub(crate) fn bad_sort(alloc: Global, error: SigError, at: Pos) -> Result<Outcom
     ensures memory { IfOk result (λ _. error ≡ sort_error.Memory → ⊥) }
 {
     let fault = sort_fault(alloc, error)?;
-    Ok(Outcome::Error(at, fault))
+    Ok(Outcome::Error(fault, at))
 }
 
 /// Why something isn't built.
 fn build_fault(alloc: Global, error: BuildError) -> Result<Fault, AllocError>
-    ensures fault { IfOk result (λ f. (s : Trees) → IsErrorIn s error → IsFault s f (why_unbuilt s error)) }
+    ensures fault { IfOk result (λ f. (s : Trees) (why : Unbuilt) → IsWhy s error why → IsFault s f (told why)) }
     ensures memory { IfOk result (λ _. error ≡ build_error.Memory → ⊥) }
 {
     match error {
@@ -125,9 +127,9 @@ fn build_fault(alloc: Global, error: BuildError) -> Result<Fault, AllocError>
 
 /// A term or a sentence that isn't built.
 pub(crate) fn unbuilt(alloc: Global, error: BuildError, at: Pos) -> Result<Outcome, AllocError>
-    ensures outcome { IfOk result (λ o. (s : Trees) → IsErrorIn s error → IsSteady s o (fails at (why_unbuilt s error))) }
+    ensures outcome { IfOk result (λ o. (s : Trees) (why : Unbuilt) → IsWhy s error why → IsSteady s o (fails at (told why))) }
     ensures memory { IfOk result (λ _. error ≡ build_error.Memory → ⊥) }
 {
     let fault = build_fault(alloc, error)?;
-    Ok(Outcome::Error(at, fault))
+    Ok(Outcome::Error(fault, at))
 }

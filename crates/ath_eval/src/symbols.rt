@@ -1,26 +1,25 @@
 // Applications of symbols.
 
-ghost use Rattle.std.specs.Prelude.{◌≡◌, ◌<◌, ◌≤◌, IfOk, Some, None, length, map};
+ghost use Rattle.std.specs.Prelude.{◌≡◌, ◌≤◌, IfOk, Some, length};
 ghost use Rattle.std.specs.List.{All};
-ghost use Rattle.ath_sorts.specs.Signature.{Signature as Declared, symbol_of};
+ghost use Rattle.ath_sorts.specs.Signature.{symbol_of};
 ghost use Rattle.ath_sorts.specs.declared.signature.Symbol.{Symbol};
 ghost use Rattle.ath_syntax.specs.Fits.{most};
-ghost use Rattle.ath_terms.specs.Trees.{Grows};
-ghost use Rattle.ath_terms.specs.SortsIn.{IsSortedIn};
-ghost use Rattle.ath_eval.specs.Applying.{symbol_applied, equated, symbol_or_equation};
-ghost use Rattle.ath_eval.specs.Arguments.{IsGood, values_at, wanted_by};
-ghost use Rattle.ath_eval.specs.Room.{charged, IsBelow, IsNarrow, IsRoomy};
-ghost use Rattle.ath_eval.specs.World.{IsAnswer, IsSteady};
+ghost use Rattle.ath_env.specs.Stands.{IsIn, value_at};
+ghost use Rattle.ath_env.specs.Values.{term_of};
+ghost use Rattle.ath_eval.specs.Applying.{symbol_applied, equation_to, equated, symbol_or_equation};
+ghost use Rattle.ath_eval.specs.Arguments.{values_at, wanted_by};
+ghost use Rattle.ath_eval.specs.World.{IsAnswerIn, IsSteady, Works, Rests, HasRoom};
 
 use crate::building::{sentence_made, term_made};
-use crate::kinds::{Terms, as_terms};
+use crate::kinds::{Terms, as_term, as_terms};
 use crate::refusals::{miscounted, numbered};
-use crate::world::Outcome;
+use crate::world::{Outcome, World};
+use ath_construction::{app, equation};
 use ath_env::Value;
 use ath_print::FaultKind;
 use ath_sorts::{Signature, Sym};
 use ath_syntax::Pos;
-use ath_terms::{Fresh, Store};
 use std::alloc::{AllocError, Global};
 
 /// The number of arguments of a symbol, where it is declared.
@@ -36,27 +35,21 @@ pub(crate) fn arguments_wanted(sig: &Signature, f: Sym) -> Option<usize>
 /// The application of a declared symbol to as many arguments as it takes.
 fn apply_terms(
     alloc: Global,
-    sig: &Signature,
-    store: &mut Store,
-    fresh: &mut Fresh,
+    w: &mut World,
     f: Sym,
     args: &[Value],
     at: Pos,
 ) -> Result<Outcome, AllocError>
-    requires sorted { IsSortedIn sig.now store.old }
-    requires narrow { IsNarrow sig.now }
-    requires counters { IsRoomy 0 fresh.old }
-    requires declared { (d : Symbol) × (symbol_of sig.now f ≡ Some d) × (length d.args ≡ length args.now) }
+    requires room { HasRoom w.old }
+    requires declared { (d : Symbol) × (symbol_of w.old.sig f ≡ Some d) × (length d.args ≡ length args.now) }
     requires few { length args.now ≤ most }
-    requires arguments { All (IsGood store.old) args.now }
-    ensures grows { Grows store.old store.new }
-    ensures sorted { IsSortedIn sig.now store.new }
-    ensures room { IsBelow fresh.new (charged 1 fresh.old) }
-    ensures outcome { IfOk result (λ o. (d : Symbol) → symbol_of sig.now f ≡ Some d → IsAnswer store.new fresh.old fresh.new o (symbol_applied sig.now d (values_at store.old args.now) at)) }
+    requires arguments { All (IsIn w.old.store) args.now }
+    ensures works { Works w.old w.new }
+    ensures outcome { IfOk result (λ o. (d : Symbol) → symbol_of w.old.sig f ≡ Some d → IsAnswerIn w.old w.new o (symbol_applied w.old.sig d (values_at w.old.store args.now) at)) }
 {
     match as_terms(alloc, args)? {
         Terms::All(ids) => {
-            let made = store.app(alloc, sig, fresh, f, &ids);
+            let made = app(alloc, &mut w.store, &w.sig, &mut w.fresh, f, &ids);
             let outcome = term_made(alloc, made, at)?;
             Ok(outcome)
         }
@@ -70,69 +63,61 @@ fn apply_terms(
 /// The application of a declared symbol that takes so many arguments.
 pub(crate) fn apply_declared(
     alloc: Global,
-    sig: &Signature,
-    store: &mut Store,
-    fresh: &mut Fresh,
+    w: &mut World,
     f: Sym,
     want: usize,
     args: &[Value],
     at: Pos,
 ) -> Result<Outcome, AllocError>
-    requires sorted { IsSortedIn sig.now store.old }
-    requires narrow { IsNarrow sig.now }
-    requires counters { IsRoomy 0 fresh.old }
-    requires declared { wanted_by (symbol_of sig.now f) ≡ Some want }
+    requires room { HasRoom w.old }
+    requires declared { wanted_by (symbol_of w.old.sig f) ≡ Some want }
     requires few { length args.now ≤ most }
-    requires arguments { All (IsGood store.old) args.now }
-    ensures grows { Grows store.old store.new }
-    ensures sorted { IsSortedIn sig.now store.new }
-    ensures room { IsBelow fresh.new (charged 1 fresh.old) }
-    ensures outcome { IfOk result (λ o. (d : Symbol) → symbol_of sig.now f ≡ Some d → IsAnswer store.new fresh.old fresh.new o (symbol_applied sig.now d (values_at store.old args.now) at)) }
+    requires arguments { All (IsIn w.old.store) args.now }
+    ensures works { Works w.old w.new }
+    ensures outcome { IfOk result (λ o. (d : Symbol) → symbol_of w.old.sig f ≡ Some d → IsAnswerIn w.old w.new o (symbol_applied w.old.sig d (values_at w.old.store args.now) at)) }
 {
     if want == args.len() {
-        let outcome = apply_terms(alloc, sig, store, fresh, f, args, at)?;
+        let outcome = apply_terms(alloc, w, f, args, at)?;
         return Ok(outcome);
     }
     let outcome = miscounted(alloc, want as u64, args.len() as u64, at)?;
     Ok(outcome)
 }
 
-/// The equation of two arguments.
-fn equate_terms(
+/// The equation of two values.
+fn equate_values(
     alloc: Global,
-    store: &mut Store,
-    args: &[Value],
+    w: &mut World,
+    left: Value,
+    right: Value,
     at: Pos,
 ) -> Result<Outcome, AllocError>
-    requires two { length args.now ≡ 2 }
-    requires arguments { All (IsGood store.old) args.now }
-    ensures grows { Grows store.old store.new }
-    ensures sorted { (sig : Declared) → IsSortedIn sig store.old → IsSortedIn sig store.new }
-    ensures outcome { IfOk result (λ o. (sig : Declared) → IsSortedIn sig store.old → IsSteady store.new o (equated sig (values_at store.old args.now) at)) }
+    requires left { IsIn w.old.store left }
+    requires right { IsIn w.old.store right }
+    ensures rests { Rests w.old w.new }
+    ensures outcome { IfOk result (λ o. IsSteady w.new.store o (equation_to w.old.sig (term_of (value_at w.old.store left)) (term_of (value_at w.old.store right)) at)) }
 {
-    match as_terms(alloc, args)? {
-        Terms::All(ids) => {
-            let sides = ids.as_slice();
-            let made = store.equation(alloc, sides[0], sides[1]);
-            let outcome = sentence_made(alloc, made, at)?;
-            Ok(outcome)
-        }
-        Terms::Wrong(i) => {
-            let outcome = numbered(alloc, FaultKind::WrongKind, i, at)?;
-            Ok(outcome)
-        }
-    }
+    let Some(s) = as_term(left) else {
+        let outcome = numbered(alloc, FaultKind::WrongKind, 1, at)?;
+        return Ok(outcome);
+    };
+    let Some(t) = as_term(right) else {
+        let outcome = numbered(alloc, FaultKind::WrongKind, 2, at)?;
+        return Ok(outcome);
+    };
+    let made = equation(alloc, &mut w.store, s, t);
+    let outcome = sentence_made(alloc, made, at)?;
+    Ok(outcome)
 }
 
 /// The equation of these arguments.
-fn equate(alloc: Global, store: &mut Store, args: &[Value], at: Pos) -> Result<Outcome, AllocError>
-    requires arguments { All (IsGood store.old) args.now }
-    ensures grows { Grows store.old store.new }
-    ensures sorted { (sig : Declared) → IsSortedIn sig store.old → IsSortedIn sig store.new }
-    ensures outcome { IfOk result (λ o. (sig : Declared) → IsSortedIn sig store.old → IsSteady store.new o (equated sig (values_at store.old args.now) at)) }
+fn equate(alloc: Global, w: &mut World, args: &[Value], at: Pos) -> Result<Outcome, AllocError>
+    requires { All (IsIn w.old.store) args.now }
+    ensures rests { Rests w.old w.new }
+    ensures outcome { IfOk result (λ o. IsSteady w.new.store o (equated w.old.sig (values_at w.old.store args.now) at)) }
 {
     if args.len() == 2 {
-        let outcome = equate_terms(alloc, store, args, at)?;
+        let outcome = equate_values(alloc, w, args[0], args[1], at)?;
         return Ok(outcome);
     }
     let outcome = miscounted(alloc, 2, args.len() as u64, at)?;
@@ -142,30 +127,24 @@ fn equate(alloc: Global, store: &mut Store, args: &[Value], at: Pos) -> Result<O
 /// The application of a symbol. One that isn't declared is `=`.
 pub(crate) fn apply_symbol(
     alloc: Global,
-    sig: &Signature,
-    store: &mut Store,
-    fresh: &mut Fresh,
+    w: &mut World,
     f: Sym,
     args: &[Value],
     at: Pos,
 ) -> Result<Outcome, AllocError>
-    requires sorted { IsSortedIn sig.now store.old }
-    requires narrow { IsNarrow sig.now }
-    requires counters { IsRoomy 0 fresh.old }
+    requires room { HasRoom w.old }
     requires few { length args.now ≤ most }
-    requires arguments { All (IsGood store.old) args.now }
-    ensures grows { Grows store.old store.new }
-    ensures sorted { IsSortedIn sig.now store.new }
-    ensures room { IsBelow fresh.new (charged 1 fresh.old) }
-    ensures outcome { IfOk result (λ o. IsAnswer store.new fresh.old fresh.new o (symbol_or_equation sig.now (symbol_of sig.now f) (values_at store.old args.now) at)) }
+    requires arguments { All (IsIn w.old.store) args.now }
+    ensures works { Works w.old w.new }
+    ensures outcome { IfOk result (λ o. IsAnswerIn w.old w.new o (symbol_or_equation w.old.sig (symbol_of w.old.sig f) (values_at w.old.store args.now) at)) }
 {
-    match arguments_wanted(sig, f) {
+    match arguments_wanted(&w.sig, f) {
         Some(want) => {
-            let outcome = apply_declared(alloc, sig, store, fresh, f, want, args, at)?;
+            let outcome = apply_declared(alloc, w, f, want, args, at)?;
             Ok(outcome)
         }
         None => {
-            let outcome = equate(alloc, store, args, at)?;
+            let outcome = equate(alloc, w, args, at)?;
             Ok(outcome)
         }
     }

@@ -1,7 +1,9 @@
 // What an evaluation runs in, and how it ends.
 
-ghost use Rattle.ath_eval.specs.Base.{AreIn};
+ghost use Rattle.ath_base.specs.Stands.{AreStored};
+ghost use Rattle.ath_terms.specs.SortsIn.{IsSortedIn};
 ghost use Rattle.ath_eval.specs.Room.{IsRoomy, IsNarrow};
+ghost use Rattle.ath_eval.specs.Sorted.{sorted-prop};
 
 use ath_base::Base;
 use ath_env::Value;
@@ -13,7 +15,7 @@ use ath_terms::{Fresh, Store};
 use ath_trees::SentId;
 
 /// The state of a run: the names, what is declared, the nodes of sentences and of phrases, the assumption base, the
-/// steps that are left, and the counters of fresh names.
+/// steps that are left, and the counters of fresh names. The nodes are well-sorted in what is declared.
 #[derive(Drop)]
 pub struct World {
     pub names: Names,
@@ -23,7 +25,8 @@ pub struct World {
     pub phrases: Phrases,
     pub fuel: u64,
     pub fresh: Fresh,
-    ghost in_store: { AreIn store base.entries.items },
+    pub ghost sorted: { IsSortedIn sig store } by { sorted-prop sig store },
+    ghost in_store: { AreStored store base.entries.items },
     ghost roomy: { IsRoomy fuel fresh },
     ghost narrow: { IsNarrow sig },
 }
@@ -34,7 +37,7 @@ pub enum Outcome {
     Value(Value),
     Theorem(SentId),
     /// at the phrase that refuses
-    Error(Pos, Fault),
+    Error(Fault, Pos),
     /// no fuel is left for the phrase at this place
     Exhausted(Pos),
 }

@@ -5,7 +5,7 @@ ghost use Rattle.ath_grammar.specs.Tokens.{class_of_lexeme};
 
 use crate::class::{Class, DirectiveWord, Mark, Opener, WordClass};
 use ath_sorts::Sym;
-use sqlite_items::Items;
+use ath_syntax::Text;
 
 /// A token, without its place. A word that can be a phrase comes with the name that it means.
 #[derive(Drop)]
@@ -17,7 +17,7 @@ pub enum Lexeme {
     SomeOf(Sym),
     Variable(Sym, u64),
     SortVariable(Sym),
-    Text(Items<u8>),
+    Text(Text),
     Opener(Opener),
     Directive(DirectiveWord),
     Mark(Mark),

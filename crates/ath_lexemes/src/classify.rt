@@ -19,7 +19,7 @@ pub fn lexeme(names: &Names, token: Token) -> Lexeme
         Token::Word(name) => word(names.text(name.0), name),
         Token::Var(name, index) => Lexeme::Variable(name, index),
         Token::SortVar(name) => Lexeme::SortVariable(name),
-        Token::Str(bytes) => Lexeme::Text(bytes),
+        Token::Str(text) => Lexeme::Text(text),
         Token::Punct(byte) => punct(byte),
         Token::Becomes => Lexeme::Mark(Mark::Becomes),
     }

@@ -8,6 +8,3 @@ pub mod reserved;
 
 pub use classify::lexeme;
 pub use levels::level;
-
-#[cfg(test)]
-mod tests;

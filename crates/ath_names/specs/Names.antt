@@ -3,6 +3,7 @@ use Rattle.std.specs.Prelude.{◌≡◌, ℕ, zero, suc, ◌+◌, ◌<◌, ◌�
 use Rattle.std.specs.Fmt.{decimal}
 use Rattle.std.specs.Str.{bytes_eq}
 use Rattle.std.specs.List.{IsDistinct}
+use Rattle.ath_names.specs.declared.limits.TheConstants.{MOST_NAME_BYTES}
 use Rattle.ath_names.specs.declared.NameError.{NameError}
 use Rattle.ath_names.specs.declared.NameError.TheVariants.{TooLong, Memory}
 
@@ -28,11 +29,11 @@ pub record IsTable (texts : List (List ℕ)) : Type 0 where
 abbrev pub Adds : List (List ℕ) → List ℕ → List (List ℕ) → ℕ → Type 0
 Adds old text new n = (new ≡ interned old text) × (number_of new text ≡ Some n)
 
--- what interning answers, and the table after it: a text of more than 200 bytes is refused, and no refusal changes the table
+-- what interning answers, and the table after it: a text that is too long is refused, and no refusal changes the table
 abbrev pub Interns : List (List ℕ) → List ℕ → List (List ℕ) → Result ℕ NameError → Type 0
-Interns old text new (Ok n) = (length text ≤ 200) × (new ≡ interned old text) × (number_of new text ≡ Some n)
-Interns old text new (Err TooLong) = (200 < length text) × (new ≡ old)
-Interns old text new (Err Memory) = (length text ≤ 200) × (new ≡ old)
+Interns old text new (Ok n) = (length text ≤ MOST_NAME_BYTES) × (new ≡ interned old text) × (number_of new text ≡ Some n)
+Interns old text new (Err TooLong) = (MOST_NAME_BYTES < length text) × (new ≡ old)
+Interns old text new (Err Memory) = (length text ≤ MOST_NAME_BYTES) × (new ≡ old)
 
 -- the names of a stem with the numbers from 1 to n
 abbrev pub numbered : List ℕ → ℕ → List (List ℕ)

@@ -4,13 +4,13 @@
 ghost use Rattle.std.specs.Prelude.{◌≡◌, ◌<◌, [], Some, length, slice_get, map, fold, OnOk, MatchResult};
 ghost use Rattle.ath_names.specs.Names.{number_of, interned, numbered, first_names, Adds, Interns, IsTable};
 
+pub mod limits;
+
 use indexmap::IndexSet;
+pub use limits::MOST_NAME_BYTES;
 use std::alloc::{AllocError, Global};
 use std::marker::Model;
 use thiserror::Error;
-
-/// The most bytes that a name has.
-pub const MAX_NAME: usize = 200;
 
 /// Why a text gets no number.
 #[derive(Debug, Drop, Error)]
@@ -108,7 +108,7 @@ impl Names {
     pub fn intern(&mut self, alloc: Global, text: &str) -> Result<usize, NameError>
         ensures { Interns self.old text.now self.new result }
     {
-        if text.len() > MAX_NAME {
+        if text.len() > MOST_NAME_BYTES {
             return Err(NameError::TooLong);
         }
         match self.add(alloc, text) {

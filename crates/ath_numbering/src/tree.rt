@@ -1,7 +1,7 @@
 // Phrases and patterns as trees, while they are read.
 
 use ath_sorts::Sym;
-use ath_syntax::{Pos, SortText};
+use ath_syntax::{Pos, SortText, Text};
 use sqlite_items::{Boxed, Items};
 
 /// `lambda` and `method`.
@@ -39,7 +39,7 @@ pub enum HypothesisWord {
 pub enum PatternTree {
     Any,
     Name(Sym),
-    Str(Items<u8>),
+    Str(Text),
     List(Items<PatternTree>),
     ListOf(Boxed<PatternTree>, Boxed<PatternTree>),
     App(Sym, Items<PatternTree>),
@@ -51,7 +51,7 @@ pub enum PatternTree {
 pub enum PhraseTree {
     Name(Pos, Sym),
     Var(Pos, Sym, u64, Option<SortText>),
-    Str(Pos, Items<u8>),
+    Str(Pos, Text),
     List(Pos, Items<PhraseTree>),
     Ascribe(Pos, Boxed<PhraseTree>, SortText),
     Apply(Pos, Boxed<PhraseTree>, Items<PhraseTree>),
@@ -76,7 +76,7 @@ pub enum StatementTree {
     Define(Sym, PhraseTree),
     DefineFun(Sym, Items<Sym>, PhraseTree),
     Assert(Option<Sym>, bool, PhraseTree),
-    Load(Items<u8>),
+    Load(Text),
     Phrase(PhraseTree),
 }
 

@@ -14,6 +14,7 @@ use Rattle.ath_grammar.specs.Laws.{after}
 use Rattle.ath_grammar.proofs.Readings as read
 use Rattle.ath_builder.specs.Values.{directive_in}
 use Rattle.ath_tokens.specs.declared.tokens.LexKind.{LexKind}
+use Rattle.ath_reader.specs.declared.limits.TheConstants.{MOST_LEVELS}
 use Rattle.ath_reader.specs.Ahead.{a_token, the_end, a_fault, ahead, Reads, reads_none, reads_more, follows_token, follows_end, follows_fault}
 use Rattle.ath_reader.specs.Reading.{Shallow, IsWhole, IsCut}
 use Rattle.ath_reader.specs.Steps.{IsNotOver}
@@ -34,8 +35,8 @@ take_snoc P x [] f h (suc (suc n)) = h
 take_snoc P x (t ∷ ts) f h zero = f zero
 take_snoc P x (t ∷ ts) f h (suc n) = take_snoc (λ us. P (t ∷ us)) x ts (λ m. f (suc m)) h n
 
-pub shallow_snoc : (ts : List Placed) (t : Placed) → Shallow ts → depth (ts ++ t ∷ []) ≤ 500 → Shallow (ts ++ t ∷ [])
-shallow_snoc ts t f h = take_snoc (λ us. depth us ≤ 500) t ts f h
+pub shallow_snoc : (ts : List Placed) (t : Placed) → Shallow ts → depth (ts ++ t ∷ []) ≤ MOST_LEVELS → Shallow (ts ++ t ∷ [])
+shallow_snoc ts t f h = take_snoc (λ us. depth us ≤ MOST_LEVELS) t ts f h
 
 -- what needs no token may be done before or behind
 settled_same : (o : Option Placed) (is : List Item) (vs : List Value) → advance trees grammar o (settle trees is vs).0 (settle trees is vs).1 ≡ advance trees grammar o is vs

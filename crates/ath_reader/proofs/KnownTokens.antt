@@ -1,15 +1,10 @@
 -- Tokens of a text: each takes a byte or more, and its name joins the names, which keep the numbers of `_` and of the words
 -- `some-..`.
-use Rattle.std.proofs.Common.{◌≡◌, ℕ, suc, ◌+◌, ◌-◌, ◌<◌, ◌≤◌, Bool, true, false, cond, ◌&&◌, ◌||◌, ◌==◌, List, [], ◌∷◌, ◌++◌, length, take, drop, Option, Some, None, refl, sym, ap, ◌∙◌, subst, arith, codes, ◌⊎◌, inl, inr, ⊎_elim, true≢false, IsUtf8}
-use Rattle.std.proofs.lemmas.Bool.{cases_lt, and_parts}
-use Rattle.std.proofs.lemmas.Bool.Decides.{nat_tests}
-use Rattle.std.proofs.lemmas.List.{at_drop_all}
-use Rattle.std.proofs.lemmas.Option.{get_or_from_slice_get, slice_get_within, same_Some}
-use Rattle.std.proofs.lemmas.Str.{IsUtf8-from_ascii, IsUtf8-nil, is_utf8-from_IsUtf8}
+use Rattle.std.proofs.Common.{◌≡◌, ℕ, ◌+◌, ◌-◌, ◌<◌, ◌≤◌, List, [], ◌∷◌, ◌++◌, length, take, drop, Option, Some, None, refl, sym, ap, ◌∙◌, subst, arith, codes, IsUtf8}
+use Rattle.std.proofs.lemmas.Option.{get_or_from_slice_get, slice_get_within}
+use Rattle.std.proofs.lemmas.Str.{IsUtf8-from_ascii}
 use Rattle.std.proofs.lemmas.Str.Ascii.{IsAscii-nil, IsAscii-cons}
-use Rattle.std.specs.List.{list_all, prefix_len}
-use Rattle.std.specs.Str.{IsAscii, is_utf8}
-use Rattle.std.specs.Str.Lossy.{utf8_valid_len}
+use Rattle.std.specs.Str.{IsAscii}
 use Rattle.ath_sorts.specs.declared.sorts.Sym.{Sym}
 use Rattle.ath_syntax.specs.declared.place.Pos.{Pos}
 use Rattle.ath_grammar.specs.declared.lexeme.Lexeme as grammar
@@ -17,118 +12,19 @@ use Rattle.ath_grammar.specs.declared.lexeme.Lexeme.TheVariants.{Wild, SomeOf}
 use Rattle.ath_grammar.specs.Tokens.{Placed, at}
 use Rattle.ath_names.specs.Names.{number_of, interned, Grows, IsTable, first_names}
 use Rattle.ath_names.proofs.NamesLaws.{number_of-interned, Grows-interned, IsTable-interned, Grows-refl, Grows-trans, text_of_number}
-use Rattle.ath_tokens.specs.declared.tokens.LexKind.TheVariants.{BadUtf8}
 use Rattle.ath_tokens.specs.declared.tokens.Token.{Token}
 use Rattle.ath_tokens.specs.declared.tokens.Token.TheVariants.{Word, Var, SortVar, Str, Punct, Becomes}
-use Rattle.ath_tokens.specs.Bytes.{is_word_char, begins_part, is_at_part, is_punct}
-use Rattle.ath_tokens.specs.Cut.{gap_len, Cut, found, ended, fault, cut_at, next_of, place_of, names_with}
+use Rattle.ath_tokens.specs.Cut.{Cut, found, ended, fault, next_of, place_of, names_with}
 use Rattle.ath_tokens.specs.Laws.{IsLongest}
-use Rattle.ath_tokens.specs.Quoted.{Quoted, plain, closed, wrong, unclosed, quoted}
-use Rattle.ath_tokens.specs.Spelling.{Lexeme, word, var, sort_var, str, punct, becomes, is_part, is_index, number, goes_on_word, indexed, spells_var, str_of, spells_str, spells_punct, spells}
-use Rattle.ath_tokens.proofs.CutLaws.{found_is_longest}
+use Rattle.ath_tokens.specs.Spelling.{Lexeme, word, var, sort_var, str, punct, becomes, number}
+use Rattle.ath_tokens.proofs.CutLaws.{found_is_longest, found_within}
+use Rattle.ath_tokens.proofs.SpelledNames.{Named, ascii_named}
 use Rattle.ath_lexemes.specs.Lexemes.{word_lexeme}
 use Rattle.ath_lexemes.specs.Numbered.{text_of, IsNumbered, lexeme_of}
 use Rattle.ath_lexemes.proofs.LexemeLaws.{some_words, wild_is_one}
 use Rattle.ath_grammar.specs.Known.{IsKnown, Known}
 use Rattle.ath_reader.specs.Ahead.{number_in, seen_as, Ahead, a_token, the_end, a_fault, ahead, Reads, reads_none, reads_more, names_past}
 use Rattle.ath_reader.proofs.Carried.{reads_snoc}
-
--- the names of tokens are ASCII
-abbrev IsAsciiNamed : Lexeme → Type 0
-IsAsciiNamed (word text) = IsAscii text
-IsAsciiNamed (var text index) = IsAscii text
-IsAsciiNamed (sort_var text) = IsAscii text
-IsAsciiNamed l = Unit {0}
-
-tested : (t : Bool) (x y : Option Lexeme) (l : Lexeme) → cond t x y ≡ Some l → ((t ≡ true) × (x ≡ Some l)) ⊎ ((t ≡ false) × (y ≡ Some l))
-tested true x y l e = inl (refl, e)
-tested false x y l e = inr (refl, e)
-
-nothing : {P : Type 0} (l : Lexeme) → None ≡ Some l → P
-nothing l e = absurd cc
-
-not_byte : (b : ℕ) (t : Bool) → 128 ≤ b → (is_word_char b || (b == 46 && t)) ≡ false
-not_byte b t h = grind (arith, nat_tests)
-
-word_byte : (b : ℕ) (t : Bool) → (is_word_char b || (b == 46 && t)) ≡ true → b < 128
-word_byte b t e = ⊎_elim (λ below. below) (λ above. absurd (true≢false (sym e ∙ not_byte b t above))) (cases_lt b 128)
-
-part_byte : (b : ℕ) → is_word_char b ≡ true → b < 128
-part_byte b e = word_byte b false (ap (λ t. t || (b == 46 && false)) e)
-
-word_ascii : (bs : List ℕ) → goes_on_word bs ≡ true → IsAscii bs
-word_ascii [] e = IsAscii-nil
-word_ascii (b ∷ bs) e = let p = and_parts (is_word_char b || (b == 46 && is_at_part bs)) (goes_on_word bs) e in IsAscii-cons b bs (word_byte b (is_at_part bs) p.0) (word_ascii bs p.1)
-
-part_ascii : (bs : List ℕ) → list_all is_word_char bs ≡ true → IsAscii bs
-part_ascii [] e = IsAscii-nil
-part_ascii (b ∷ bs) e = let p = and_parts (is_word_char b) (list_all is_word_char bs) e in IsAscii-cons b bs (part_byte b p.0) (part_ascii bs p.1)
-
-front_ascii : (bs : List ℕ) → IsAscii (take (prefix_len is_word_char bs) bs)
-front_ascii [] = IsAscii-nil
-front_ascii (b ∷ bs) = by (is_word_char b) refl (front_ascii bs)
-  where
-    n : ℕ
-    n = prefix_len is_word_char bs
-
-    by : (t : Bool) → is_word_char b ≡ t → IsAscii (take n bs) → IsAscii (take (cond t (1 + n) 0) (b ∷ bs))
-    by true e rest = let one : 1 + n ≡ suc n = omega arith in subst (λ k. IsAscii (take k (b ∷ bs))) (sym one) (IsAscii-cons b (take n bs) (part_byte b e) rest)
-    by false e rest = IsAscii-nil
-
-module _ (l : Lexeme) where
-  named : (m : Lexeme) → IsAsciiNamed m → Some m ≡ Some l → IsAsciiNamed l
-  named m h e = subst IsAsciiNamed (same_Some m l e) h
-
-  index_named : (name ds : List ℕ) → IsAscii name → indexed name ds ≡ Some l → IsAsciiNamed l
-  index_named name [] h e = named (var name 0) h e
-  index_named name (c ∷ ds) h e = ⊎_elim (λ yes. named (var name (number ds)) h yes.1) (λ no. nothing l no.1) (tested (c == 37 && is_index ds) (Some (var name (number ds))) None l e)
-
-  var_named : (bs : List ℕ) → spells_var bs ≡ Some l → IsAsciiNamed l
-  var_named bs e = ⊎_elim
-      (λ yes. index_named (take n bs) (drop n bs) (front_ascii bs) yes.1)
-      (λ no. nothing l no.1)
-      (tested (is_at_part bs) (indexed (take n bs) (drop n bs)) None l e)
-    where
-      n : ℕ
-      n = prefix_len is_word_char bs
-
-  str_named : (bs : List ℕ) (q : Quoted) → str_of bs q ≡ Some l → IsAsciiNamed l
-  str_named bs (closed n means) e = ⊎_elim (λ yes. named (str means) tt yes.1) (λ no. nothing l no.1) (tested (length bs == n + 1 && is_utf8 (take n bs)) (Some (str means)) None l e)
-  str_named bs (wrong back n) e = nothing l e
-  str_named bs unclosed e = nothing l e
-
-  punct_named : (b : ℕ) (bs : List ℕ) → spells_punct b bs ≡ Some l → IsAsciiNamed l
-  punct_named b [] e = named (punct b) tt e
-  punct_named b (c ∷ []) e = ⊎_elim (λ yes. named becomes tt yes.1) (λ no. nothing l no.1) (tested (b == 58 && c == 61) (Some becomes) None l e)
-  punct_named b (c ∷ d ∷ bs) e = nothing l e
-
-  word_named : (b : ℕ) (bs : List ℕ) → begins_part b ≡ true → cond (goes_on_word bs) (Some (word (b ∷ bs))) None ≡ Some l → IsAsciiNamed l
-  word_named b bs part e = ⊎_elim
-      (λ yes. named (word (b ∷ bs)) (IsAscii-cons b bs (part_byte b (and_parts (is_word_char b) _ part).0) (word_ascii bs yes.0)) yes.1)
-      (λ no. nothing l no.1)
-      (tested (goes_on_word bs) (Some (word (b ∷ bs))) None l e)
-
-  sort_named : (bs : List ℕ) → cond (is_part bs) (Some (sort_var bs)) None ≡ Some l → IsAsciiNamed l
-  sort_named bs e = ⊎_elim
-      (λ yes. named (sort_var bs) (part_ascii bs (and_parts (is_at_part bs) (list_all is_word_char bs) yes.0).1) yes.1)
-      (λ no. nothing l no.1)
-      (tested (is_part bs) (Some (sort_var bs)) None l e)
-
-  spelled : (bs : List ℕ) → spells bs ≡ Some l → IsAsciiNamed l
-  spelled [] e = nothing l e
-  spelled (b ∷ bs) e = ⊎_elim (λ yes. word_named b bs yes.0 yes.1) (λ no. second no.1) (tested (begins_part b) _ _ l e)
-    where
-      fifth : cond (is_punct b) (spells_punct b bs) None ≡ Some l → IsAsciiNamed l
-      fifth f = ⊎_elim (λ yes. punct_named b bs yes.1) (λ no. nothing l no.1) (tested (is_punct b) _ _ l f)
-
-      fourth : cond (b == 34) (spells_str bs) (cond (is_punct b) (spells_punct b bs) None) ≡ Some l → IsAsciiNamed l
-      fourth f = ⊎_elim (λ yes. str_named bs (quoted plain bs) yes.1) (λ no. fifth no.1) (tested (b == 34) _ _ l f)
-
-      third : cond (b == 39) (cond (is_part bs) (Some (sort_var bs)) None) (cond (b == 34) (spells_str bs) (cond (is_punct b) (spells_punct b bs) None)) ≡ Some l → IsAsciiNamed l
-      third f = ⊎_elim (λ yes. sort_named bs yes.1) (λ no. fourth no.1) (tested (b == 39) _ _ l f)
-
-      second : cond (b == 63) (spells_var bs) (cond (b == 39) (cond (is_part bs) (Some (sort_var bs)) None) (cond (b == 34) (spells_str bs) (cond (is_punct b) (spells_punct b bs) None))) ≡ Some l → IsAsciiNamed l
-      second f = ⊎_elim (λ yes. var_named bs yes.1) (λ no. third no.1) (tested (b == 63) _ _ l f)
 
 -- the names with those of a token
 module _ (names : List (List ℕ)) where
@@ -140,26 +36,13 @@ module _ (names : List (List ℕ)) where
   names_grow (punct b) = Grows-refl names
   names_grow becomes = Grows-refl names
 
-  names_table : IsTable names → (l : Lexeme) → IsAsciiNamed l → IsTable (names_with names l)
+  names_table : IsTable names → (l : Lexeme) → Named IsAscii l → IsTable (names_with names l)
   names_table table (word text) h = IsTable-interned names text table (IsUtf8-from_ascii text h)
   names_table table (var text index) h = IsTable-interned names text table (IsUtf8-from_ascii text h)
   names_table table (sort_var text) h = IsTable-interned names text table (IsUtf8-from_ascii text h)
   names_table table (str bytes) h = table
   names_table table (punct b) h = table
   names_table table becomes h = table
-
--- a token that is found stands in the text
-found_within : (text : List ℕ) (from : ℕ) (l : Lexeme) (s e : ℕ) → next_of text from ≡ found l s e → from ≤ length text
-found_within text from l s e f = ⊎_elim (λ past. absurd (clash (sym (at_end past) ∙ f))) (λ within. within) (cases_lt (length text) from)
-  where
-    cut : List ℕ → Cut
-    cut rest = let gap = gap_len false rest in cond (is_utf8 (take gap rest)) (cut_at (from + gap) (drop gap rest)) (fault BadUtf8 (from + utf8_valid_len (take gap rest)))
-
-    at_end : length text < from → next_of text from ≡ ended
-    at_end past = at_drop_all cut text from (omega arith) ∙ ap (λ t. cond t ended (fault BadUtf8 (from + utf8_valid_len []))) (is_utf8-from_IsUtf8 [] IsUtf8-nil)
-
-    clash : ended ≡ found l s e → ⊥
-    clash h = cc
 
 pub same_token : (t u : Placed) (known last : List (List ℕ)) (m n : ℕ) → a_token t known m ≡ a_token u last n → (t ≡ u) × (known ≡ last) × (m ≡ n)
 same_token t u known last m n e = (cc, cc, cc)
@@ -209,7 +92,7 @@ module _ (file : ℕ) (text : List ℕ) where
       token_grow = subst (Grows names) c.joined (names_grow names c.token)
 
       token_table : IsTable names → IsTable known
-      token_table table = subst IsTable c.joined (names_table names table c.token (spelled c.token (take (to - c.start) (drop c.start text)) longest.spelled))
+      token_table table = subst IsTable c.joined (names_table names table c.token (ascii_named c.token (take (to - c.start) (drop c.start text)) longest.spelled))
 
   -- each token takes a byte or more
   pub reads_few : (names : List (List ℕ)) (from : ℕ) (ts : List Placed) (known : List (List ℕ)) (to : ℕ) → from ≤ length text → Reads file text names from ts known to → (length ts + from ≤ to) × (to ≤ length text)

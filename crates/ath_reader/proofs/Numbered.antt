@@ -8,6 +8,7 @@ use Rattle.ath_numbering.specs.Trees.{directive_of}
 use Rattle.ath_names.specs.Names.{IsTable, Grows, first_names}
 use Rattle.ath_syntax.specs.Proper.{ProperDirective}
 use Rattle.ath_tokens.specs.Cutting.{Cutting}
+use Rattle.ath_reader.specs.declared.limits.TheConstants.{MOST_BYTES}
 use Rattle.ath_reader.specs.declared.reader.SyntaxError.{SyntaxError}
 use Rattle.ath_reader.specs.declared.reader.SyntaxKind.TheVariants.{Memory}
 use Rattle.ath_reader.specs.Steps.{reading_of, ReadsTree, NumbersTree}
@@ -15,7 +16,7 @@ use Rattle.ath_reader.proofs.Growth.{front_grows}
 use Rattle.ath_reader.proofs.ProperRead.{whole_is_proper}
 
 module _ (old : Cutting) (names : List (List ℕ)) (tree : read.DirectiveTree) (new : Cutting) (names' : List (List ℕ)) (found : ReadsTree old names (Ok (Some tree)) new names') where
-  pub found_is_proper : length old.text ≤ 4194304 → IsTable names → Grows first_names names → ProperDirective (directive_of tree)
+  pub found_is_proper : length old.text ≤ MOST_BYTES → IsTable names → Grows first_names names → ProperDirective (directive_of tree)
   found_is_proper few table first = let f = found.0 in
       whole_is_proper old.file old.text names old.at f.tokens f.known f.to few table first f.read (directive_of tree) f.next f.comes found.1
 

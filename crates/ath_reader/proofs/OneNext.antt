@@ -9,6 +9,7 @@ use Rattle.ath_grammar.specs.Trees.{Value}
 use Rattle.ath_grammar.specs.Directives.{SpellsDirective, Begins}
 use Rattle.ath_grammar.specs.Laws.{after}
 use Rattle.ath_grammar.proofs.Readings.{begins, unread, no_two}
+use Rattle.ath_reader.specs.declared.limits.TheConstants.{MOST_LEVELS}
 use Rattle.ath_reader.specs.declared.reader.SyntaxError.{SyntaxError}
 use Rattle.ath_reader.specs.declared.reader.SyntaxKind.{SyntaxKind}
 use Rattle.ath_reader.specs.declared.reader.SyntaxKind.TheVariants.{Lex, Unexpected, Unclosed, KindMix, TooDeep}
@@ -121,7 +122,7 @@ module _ (r : Reading) (names : List (List ℕ)) (from : ℕ) where
           clash : l.token ∷ (l.rest ++ more) ≡ [] → ⊥
           clash e = cc
 
-  not_failed : (ts : List Placed) (t : Placed) (known : List (List ℕ)) (to : ℕ) (kind : SyntaxKind) (pos : Pos) → Begins true (ts ++ t ∷ []) → depth (ts ++ t ∷ []) ≤ 500 → Fails r ts (a_token t known to) kind pos → ⊥
+  not_failed : (ts : List Placed) (t : Placed) (known : List (List ℕ)) (to : ℕ) (kind : SyntaxKind) (pos : Pos) → Begins true (ts ++ t ∷ []) → depth (ts ++ t ∷ []) ≤ MOST_LEVELS → Fails r ts (a_token t known to) kind pos → ⊥
   not_failed ts t known to Unexpected pos b shallow h = h.0 (loose (ts ++ t ∷ []) b)
   not_failed ts t known to KindMix pos b shallow h = h.0 b
   not_failed ts t known to TooDeep pos b shallow h = omega (arith, shallow, h.1)
@@ -130,8 +131,8 @@ module _ (r : Reading) (names : List (List ℕ)) (from : ℕ) where
   longer_not_failed : (f g : Front r names from) (kind : SyntaxKind) (pos : Pos) → FrontIn f g → Fails r f.tokens f.next kind pos → ⊥
   longer_not_failed f g kind pos l h = not_failed f.tokens l.token l.known l.to kind pos (begins_front f.tokens l.token l.rest (longer_begins f g l)) shallow (subst (λ (n : Ahead). Fails r f.tokens n kind pos) l.comes h)
     where
-      shallow : depth (f.tokens ++ l.token ∷ []) ≤ 500
-      shallow = subst (λ (us : List Placed). depth us ≤ 500) (ap (take (length (f.tokens ++ l.token ∷ []))) l.more ∙ take_front f.tokens l.token l.rest) (g.shallow (length (f.tokens ++ l.token ∷ [])))
+      shallow : depth (f.tokens ++ l.token ∷ []) ≤ MOST_LEVELS
+      shallow = subst (λ (us : List Placed). depth us ≤ MOST_LEVELS) (ap (take (length (f.tokens ++ l.token ∷ []))) l.more ∙ take_front f.tokens l.token l.rest) (g.shallow (length (f.tokens ++ l.token ∷ [])))
 
   -- what is known behind the same front
   same_past : (f g : Front r names from) → Same f g → names_past f.next f.known ≡ names_past g.next g.known

@@ -14,6 +14,7 @@ use Rattle.ath_grammar.specs.Laws.{after}
 use Rattle.ath_builder.specs.Values.{directive_in}
 use Rattle.ath_tokens.specs.declared.tokens.LexKind.{LexKind}
 use Rattle.ath_tokens.specs.Cut.{place_of}
+use Rattle.ath_reader.specs.declared.limits.TheConstants.{MOST_LEVELS}
 use Rattle.ath_reader.specs.declared.reader.SyntaxKind.{SyntaxKind}
 use Rattle.ath_reader.specs.declared.reader.SyntaxKind.TheVariants.{Lex, Unexpected, Unclosed, KindMix, TooDeep}
 use Rattle.ath_reader.specs.Ahead.{Ahead, a_token, the_end, a_fault, ahead, Reads, reads_none, reads_more, names_past}
@@ -24,15 +25,15 @@ use Rattle.ath_reader.proofs.KnownTokens.{reads_rise}
 use Rattle.ath_reader.specs.Steps.{IsNotOver}
 use Rattle.ath_reader.proofs.Carried.{reads_snoc, shallow_snoc, begins_here, over_whole, end_whole, fault_whole, end_cut, fault_cut, token_cut, refused_not_over, mixed_not_over, took_not_over, refused_here, behind_here, mixed, read_next, begins_next}
 
--- 500 levels at most, or more
+-- as many levels as may be, or more
 data Levels (n : ℕ) : Type 0 where
-  few : n ≤ 500 → Levels n
-  many : 500 < n → Levels n
+  few : n ≤ MOST_LEVELS → Levels n
+  many : MOST_LEVELS < n → Levels n
 
 levels : (n : ℕ) → Levels n
-levels n = by (nat_lt 500 n) refl
+levels n = by (nat_lt MOST_LEVELS n) refl
   where
-    by : (b : Bool) → nat_lt 500 n ≡ b → Levels n
+    by : (b : Bool) → nat_lt MOST_LEVELS n ≡ b → Levels n
     by true e = many (grind (arith, nat_tests, e))
     by false e = few (grind (arith, nat_tests, e))
 
@@ -93,7 +94,7 @@ module _ (r : Reading) (names : List (List ℕ)) (from : ℕ) where
       rises = reads_rise r.file r.text known to t [] last end (reads_more e reads_none)
 
       -- the token is taken
-      further : (js : List Item) (us : List Value) → advance trees grammar (Some t) is vs ≡ took true js us → depth (ts ++ t ∷ []) ≤ 500 → Begun (ts ++ t ∷ []) last end js us
+      further : (js : List Item) (us : List Value) → advance trees grammar (Some t) is vs ≡ took true js us → depth (ts ++ t ∷ []) ≤ MOST_LEVELS → Begun (ts ++ t ∷ []) last end js us
       further js us s low = record {
         read = reads_snoc r.file r.text b.read e;
         leads = read_next ts is vs b.leads t js us s;
@@ -143,7 +144,7 @@ module _ (r : Reading) (names : List (List ℕ)) (from : ℕ) where
   no_tokens : Begun [] names from directive_items []
   no_tokens = record { read = reads_none; leads = refl; shallow = λ n. first n }
     where
-      first : (n : ℕ) → depth (take n []) ≤ 500
+      first : (n : ℕ) → depth (take n []) ≤ MOST_LEVELS
       first zero = omega arith
       first (suc n) = omega arith
 

@@ -9,6 +9,7 @@ use Rattle.ath_tokens.specs.Cutting.{Cutting}
 use Rattle.ath_numbering.specs.declared.tree.DirectiveTree as read
 use Rattle.ath_numbering.specs.Trees.{directive_of}
 use Rattle.ath_builder.specs.Values.{held, directive_in}
+use Rattle.ath_reader.specs.declared.limits.TheConstants.{MOST_LEVELS}
 use Rattle.ath_reader.specs.declared.machine.Machine.{Machine}
 use Rattle.ath_reader.specs.declared.machine.Step.{Step}
 use Rattle.ath_reader.specs.declared.machine.Step.TheVariants as step
@@ -60,7 +61,7 @@ deepens c b (Token l p) m os (Err x) same o (inl h) = inl h
 deepens c b (Token l p) m os (Err x) same o (inr (g, high)) = inr (
   ap (λ (y : SyntaxError). y.pos) g,
   subst (λ (y : SyntaxError). Rejects (outcome b (Token l p)) (depth_of (take_class (class_of_lexeme l) b.levels)) y.kind) (sym g)
-      (subst (λ (q : Outcome (List Value)). Rejects q (depth_of (take_class (class_of_lexeme l) b.levels)) TooDeep) (sym o) (subst (λ (ks : List Open). 500 < depth_of (take_class (class_of_lexeme l) ks)) same high)),
+      (subst (λ (q : Outcome (List Value)). Rejects q (depth_of (take_class (class_of_lexeme l) b.levels)) TooDeep) (sym o) (subst (λ (ks : List Open). MOST_LEVELS < depth_of (take_class (class_of_lexeme l) ks)) same high)),
 )
 deepens c b End m os (Ok t) same o h = absurd h
 deepens c b End m os (Err x) same o (inl h) = inl h

@@ -20,6 +20,7 @@ use Rattle.ath_tokens.specs.Cutting.{Cutting}
 use Rattle.ath_numbering.specs.declared.tree.DirectiveTree as read
 use Rattle.ath_numbering.specs.Trees.{directive_of}
 use Rattle.ath_builder.specs.Values.{held, directive_in}
+use Rattle.ath_reader.specs.declared.limits.TheConstants.{MOST_LEVELS}
 use Rattle.ath_reader.specs.declared.reader.Begun.{Begun}
 use Rattle.ath_reader.specs.declared.reader.Seen.{Seen}
 use Rattle.ath_reader.specs.declared.reader.Seen.TheVariants.{Token, End, Fault}
@@ -48,7 +49,7 @@ pub record Carried (old : Cutting) (names : List (List ℕ)) (c : Cutting) (know
   pub leads : after tokens ≡ Some (settle trees (items_in b) (values_in b))
   pub levels : b.levels ≡ take_all [] tokens
   pub shallow : Shallow tokens
-  pub low : depth_of b.levels ≤ 500
+  pub low : depth_of b.levels ≤ MOST_LEVELS
   pub same : c ≡ record old { at = c.at }
   pub some : begun ≡ true → tokens ≡ [] → ⊥
   pub none : begun ≡ false → (c ≡ old) × (known ≡ names)
@@ -60,13 +61,13 @@ begins_carried c names b e l = record {
   leads = e;
   levels = l;
   shallow = λ n. first n;
-  low = subst (λ (os : List Open). depth_of os ≤ 500) (sym l) (omega arith);
+  low = subst (λ (os : List Open). depth_of os ≤ MOST_LEVELS) (sym l) (omega arith);
   same = refl;
   some = λ b f. cc;
   none = λ b. (refl, refl);
 }
   where
-    first : (n : ℕ) → depth (take n []) ≤ 500
+    first : (n : ℕ) → depth (take n []) ≤ MOST_LEVELS
     first zero = omega arith
     first (suc n) = omega arith
 
@@ -120,7 +121,7 @@ module _ (old : Cutting) (names : List (List ℕ)) (c : Cutting) (known : List (
     read = reads_snoc old.file old.text carried.read (from_old (a_token (at p l) known' new.at) looks.0);
     leads = read_next carried.tokens (items_in b) (values_in b) carried.leads (at p l) (items_in a) (values_in a) takes.0;
     levels = takes.1 ∙ sym (levels_next p l);
-    shallow = shallow_snoc carried.tokens (at p l) carried.shallow (subst (λ (n : ℕ). n ≤ 500) (ap depth_of takes.1 ∙ sym (depth_next p l)) takes.2);
+    shallow = shallow_snoc carried.tokens (at p l) carried.shallow (subst (λ (n : ℕ). n ≤ MOST_LEVELS) (ap depth_of takes.1 ∙ sym (depth_next p l)) takes.2);
     low = takes.2;
     same = looks.3 ∙ ap (λ (d : Cutting). record d { at = new.at }) carried.same;
     some = λ b f. snoc_some carried.tokens (at p l) f;
@@ -170,7 +171,7 @@ module _ (old : Cutting) (names : List (List ℕ)) (c : Cutting) (known : List (
   rejects p l known' to (took false js us) KindMix s h = let m = mixed carried.tokens (items_in b) (values_in b) carried.leads (at p l) js us s in (cuts (at p l) known' to (took false js us) s (took_not_over false js us), (m.0, m.1, refl))
   rejects p l known' to (took true js us) TooDeep s h = (
     cuts (at p l) known' to (took true js us) s (took_not_over true js us),
-    (begins_next carried.tokens (items_in b) (values_in b) carried.leads (at p l) js us s, subst (λ (n : ℕ). 500 < n) (sym (depth_next p l)) h, refl),
+    (begins_next carried.tokens (items_in b) (values_in b) carried.leads (at p l) js us s, subst (λ (n : ℕ). MOST_LEVELS < n) (sym (depth_next p l)) h, refl),
   )
   rejects p l known' to o kind s h = absurd h
 

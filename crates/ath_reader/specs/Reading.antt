@@ -6,6 +6,7 @@ use Rattle.ath_grammar.specs.Tokens.{Placed, at}
 use Rattle.ath_grammar.specs.Directives.{SpellsDirective, Begins}
 use Rattle.ath_grammar.specs.Levels.{depth}
 use Rattle.ath_tokens.specs.Cut.{place_of}
+use Rattle.ath_reader.specs.declared.limits.TheConstants.{MOST_LEVELS}
 use Rattle.ath_reader.specs.declared.reader.SyntaxError.{SyntaxError}
 use Rattle.ath_reader.specs.declared.reader.SyntaxKind.{SyntaxKind}
 use Rattle.ath_reader.specs.declared.reader.SyntaxKind.TheVariants.{Lex, Unexpected, Unclosed, KindMix, TooDeep}
@@ -22,9 +23,9 @@ pub record Reading : Type 0 where
   pub file : ℕ
   pub progress : Progress
 
--- no more than 500 levels are open behind each front of them
+-- never are more levels open than may be, behind each front of them
 abbrev pub Shallow : List Placed → Type 0
-Shallow ts = (n : ℕ) → depth (take n ts) ≤ 500
+Shallow ts = (n : ℕ) → depth (take n ts) ≤ MOST_LEVELS
 
 -- some of the next tokens of a text, which begin a directive, and what comes next behind them
 pub record Front (r : Reading) (names : List (List ℕ)) (from : ℕ) : Type 0 where
@@ -49,13 +50,13 @@ abbrev pub place : Placed → Pos
 place (at p t) = p
 
 -- The refusals and their causes: what comes next is a lexical fault; the end; a token with which no directive begins, and
--- none would if kinds weren't told apart; one with which a directive would begin then; or one that opens level 501.
+-- none would if kinds weren't told apart; one with which a directive would begin then; or one that opens a level too many.
 abbrev pub Fails : Reading → List Placed → Ahead → SyntaxKind → Pos → Type 0
 Fails r ts (a_fault found byte) (Lex kind) pos = (kind ≡ found) × (pos ≡ place_of r.file r.text byte)
 Fails r ts the_end Unclosed pos = (ts ≡ [] → ⊥) × (pos ≡ place_of r.file r.text (length r.text))
 Fails r ts (a_token t known to) Unexpected pos = (Begins false (ts ++ t ∷ []) → ⊥) × (pos ≡ place t)
 Fails r ts (a_token t known to) KindMix pos = (Begins true (ts ++ t ∷ []) → ⊥) × Begins false (ts ++ t ∷ []) × (pos ≡ place t)
-Fails r ts (a_token t known to) TooDeep pos = Begins true (ts ++ t ∷ []) × (500 < depth (ts ++ t ∷ [])) × (pos ≡ place t)
+Fails r ts (a_token t known to) TooDeep pos = Begins true (ts ++ t ∷ []) × (MOST_LEVELS < depth (ts ++ t ∷ [])) × (pos ≡ place t)
 Fails r ts next kind pos = ⊥
 
 -- a refusal, and the names after it

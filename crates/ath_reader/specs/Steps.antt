@@ -13,6 +13,7 @@ use Rattle.ath_grammar.specs.Trees.{Value, v1, trees}
 use Rattle.ath_names.specs.Names as table
 use Rattle.ath_tokens.specs.Cut.{place_of}
 use Rattle.ath_tokens.specs.Cutting.{Cutting}
+use Rattle.ath_reader.specs.declared.limits.TheConstants.{MOST_LEVELS}
 use Rattle.ath_reader.specs.declared.reader.Seen.{Seen}
 use Rattle.ath_reader.specs.declared.reader.Seen.TheVariants.{Token, End, Fault}
 use Rattle.ath_reader.specs.declared.reader.SyntaxError.{SyntaxError}
@@ -42,7 +43,7 @@ abbrev pub Rejects : Outcome (List Value) → ℕ → SyntaxKind → Type 0
 Rejects no_way n Unexpected = Unit {0}
 Rejects (over false us) n Unexpected = Unit {0}
 Rejects (took false is us) n KindMix = Unit {0}
-Rejects (took true is us) n TooDeep = 500 < n
+Rejects (took true is us) n TooDeep = MOST_LEVELS < n
 Rejects o n kind = ⊥
 
 -- what comes next, and the place and the names behind it
@@ -58,9 +59,9 @@ Refusal c b (Token l p) e = (e.pos ≡ p) × Rejects (outcome b (Token l p)) (de
 Refusal c b End e = (e ≡ record { kind = Unclosed; pos = place_of c.file c.text (length c.text) }) × IsNotOver (outcome b End)
 Refusal c b (Fault x) e = (e ≡ record { kind = Lex x.kind; pos = x.pos }) × IsNotOver (outcome b (Fault x))
 
--- a token is taken, with no more than 500 levels
+-- a token is taken, with no more levels than may be
 abbrev pub TakesOn : Begun → Seen → Begun → Type 0
-TakesOn b (Token l p) new = (outcome b (Token l p) ≡ took true (left new.machine) (held new.machine.values)) × (new.levels ≡ take_class (class_of_lexeme l) b.levels) × (depth_of new.levels ≤ 500)
+TakesOn b (Token l p) new = (outcome b (Token l p) ≡ took true (left new.machine) (held new.machine.values)) × (new.levels ≡ take_class (class_of_lexeme l) b.levels) × (depth_of new.levels ≤ MOST_LEVELS)
 TakesOn b seen new = ⊥
 
 -- a refusal, with the kind that it has at a token
@@ -71,8 +72,8 @@ refusal_of c (Fault x) kind = record { kind = Lex x.kind; pos = x.pos }
 
 -- the levels behind what comes next, where it is taken
 abbrev pub Deepens : Cutting → Begun → Seen → Result Taken SyntaxError → Type 0
-Deepens c b (Token l p) (Ok (On new)) = (new ≡ record b { levels = take_class (class_of_lexeme l) b.levels }) × (depth_of new.levels ≤ 500)
-Deepens c b (Token l p) (Err e) = (e.kind ≡ Memory) ⊎ ((e ≡ record { kind = TooDeep; pos = p }) × (500 < depth_of (take_class (class_of_lexeme l) b.levels)))
+Deepens c b (Token l p) (Ok (On new)) = (new ≡ record b { levels = take_class (class_of_lexeme l) b.levels }) × (depth_of new.levels ≤ MOST_LEVELS)
+Deepens c b (Token l p) (Err e) = (e.kind ≡ Memory) ⊎ ((e ≡ record { kind = TooDeep; pos = p }) × (MOST_LEVELS < depth_of (take_class (class_of_lexeme l) b.levels)))
 Deepens c b seen (Err e) = (e.kind ≡ Memory) ⊎ (e ≡ refusal_of c seen Unexpected)
 Deepens c b seen o = ⊥
 

@@ -3,14 +3,11 @@
 
 mod kinds;
 pub mod laws;
+pub mod limits;
 mod machine;
 mod operators;
 mod reader;
 
+pub use limits::{MOST_BYTES, MOST_LEVELS};
 pub use operators::OpTable;
 pub use reader::{Reader, SyntaxError, SyntaxKind};
-
-#[cfg(test)]
-mod level_tests;
-#[cfg(test)]
-mod tests;

@@ -4,12 +4,14 @@ ghost use Rattle.std.specs.Prelude.{◌≡◌, ◌≤◌, [], None, length, IfOk
 ghost use Rattle.ath_grammar.specs.Directives.{directive_items};
 ghost use Rattle.ath_names.specs.Names.{Grows as NamesGrow, first_names};
 ghost use Rattle.ath_syntax.specs.Nodes.{Grows};
+ghost use Rattle.ath_reader.specs.declared.limits.TheConstants.{MOST_BYTES};
 ghost use Rattle.ath_reader.specs.Reading.{reached};
 ghost use Rattle.ath_reader.specs.Answering.{Answers};
 ghost use Rattle.ath_reader.specs.Runs.{left};
 ghost use Rattle.ath_builder.specs.Values.{held};
 ghost use Rattle.ath_reader.specs.Steps.{Looks, refusal_of, Deepens, Turns, ReadsTree, NumbersTree, is_end};
 
+use crate::limits::MOST_LEVELS;
 use crate::machine::{Machine, Step};
 use crate::operators::OpTable;
 use ath_grammar::{Levels, Lexeme};
@@ -22,9 +24,6 @@ use std::alloc::Global;
 use std::marker::Model;
 use thiserror::Error;
 
-/// The most levels that are open at a time.
-const MAX_LEVEL: usize = 500;
-
 /// Why a text goes on with no directive.
 #[derive(Clone, Copy, Debug, PartialEq, Eq)]
 pub enum SyntaxKind {
@@ -36,14 +35,14 @@ pub enum SyntaxKind {
     Unclosed,
     /// A deduction stands where an expression has to, or an expression where a deduction has to.
     KindMix,
-    /// More than 500 levels are open.
+    /// More than `MOST_LEVELS` levels are open.
     TooDeep,
     /// Out of memory. The place then says nothing.
     Memory,
 }
 
 /// A refusal and its place: the byte of a lexical fault; the first token with which the text begins no directive; the
-/// bracket or keyword that opens level 501; or the end of the text.
+/// bracket or keyword that opens a level too many; or the end of the text.
 #[derive(Clone, Copy, Debug, PartialEq, Eq, Error)]
 #[error("{kind:?} at line {}, column {}", pos.line, pos.col)]
 pub struct SyntaxError {
@@ -61,6 +60,7 @@ pub struct Reader {
 
 impl Model for Reader {
     ghost use Rattle.std.specs.Prelude.{◌≡◌, ◌≤◌, length, None};
+    ghost use Rattle.ath_reader.specs.declared.limits.TheConstants.{MOST_BYTES};
     ghost use Rattle.ath_reader.specs.Reading.{Reading};
     ghost use Rattle.ath_reader.specs.Answering.{progress_of};
 
@@ -72,13 +72,13 @@ impl Model for Reader {
       progress = progress_of r.refused r.tokens.at;
     } };
 
-    ghost invariant = { λ r. (length r.tokens.text ≤ 4194304) × (r.refused ≡ None → r.tokens.refused ≡ None) };
+    ghost invariant = { λ r. (length r.tokens.text ≤ MOST_BYTES) × (r.refused ≡ None → r.tokens.refused ≡ None) };
 }
 
 impl Reader {
-    /// The directives of a text of at most 4194304 bytes, in the file of this number.
+    /// The directives of a text of at most `MOST_BYTES` bytes, in the file of this number.
     pub fn new(text: Vec<u8>, file: usize) -> Reader
-        requires { length text.items ≤ 4194304 }
+        requires { length text.items ≤ MOST_BYTES }
         ensures { result ≡ record { text = text.items; file = file; progress = reached 0 } }
     {
         Reader {
@@ -206,7 +206,7 @@ fn deepen(tokens: &Tokens, begun: Begun, seen: &Seen) -> Result<Taken, SyntaxErr
     if levels.take(token.class()).is_err() {
         return Err(wants_memory(tokens));
     }
-    if MAX_LEVEL < levels.depth() {
+    if MOST_LEVELS < levels.depth() {
         return Err(SyntaxError {
             kind: SyntaxKind::TooDeep,
             pos: *pos,
@@ -289,7 +289,7 @@ fn read_directive(
     phrases: &mut Phrases,
 ) -> Result<Option<Directive>, SyntaxError>
     requires fresh { tokens.old.refused ≡ None }
-    requires short { length tokens.old.text ≤ 4194304 }
+    requires short { length tokens.old.text ≤ MOST_BYTES }
     requires table { NamesGrow first_names names.old }
     ensures { NumbersTree tokens.old names.old phrases.old result tokens.new names.new phrases.new }
 {

@@ -1,9 +1,8 @@
 -- What a run writes may be believed, whatever ended it.
-use Rattle.std.proofs.Common.{◌≡◌, ℕ, List, [], ◌∷◌, ◌++◌, take, drop, append_assoc, append-nil, Option, Some, None, refl, sym, ◌∙◌, ap, subst}
+use Rattle.std.proofs.Common.{◌≡◌, ℕ, List, [], ◌∷◌, ◌++◌, take, drop, append_assoc, append-nil, Option, Some, refl, sym, ◌∙◌, ap, subst}
 use Rattle.std.specs.List.{concat}
 use Rattle.std.proofs.lemmas.List.{take-append-drop}
 use Rattle.std.proofs.lemmas.List.Folds.{concat-append}
-use Rattle.ath_io.specs.Shelf.{Texts}
 use Rattle.ath_io.specs.Faults.{one_more}
 use Rattle.ath_io.specs.Sink.{Held, with_put, with_puts}
 use Rattle.ath_io.proofs.Told.{with_puts-bytes}

@@ -1,5 +1,5 @@
 -- What is done of a move, after some items of it and then the rest.
-use Rattle.std.proofs.Common.{◌≡◌, ℕ, Bool, true, false, ◌||◌, List, [], ◌∷◌, ◌++◌, length, take, Option, Some, None, Result, Ok, Err, refl, sym, ◌∙◌, ap, subst, arith, append_assoc, nat_lt, if◌then◌else◌}
+use Rattle.std.proofs.Common.{◌≡◌, ℕ, Bool, true, false, ◌||◌, List, [], ◌∷◌, ◌++◌, length, map, take, Option, Some, None, Result, Ok, Err, refl, sym, ◌∙◌, ap, subst, arith, append_assoc, nat_lt, if◌then◌else◌}
 use Rattle.std.proofs.lemmas.List.{append-nil}
 use Rattle.std.proofs.lemmas.List.Folds.{list_any-append}
 use Rattle.std.proofs.lemmas.Bool.Decides.{nat_tests}
@@ -149,6 +149,10 @@ line_there w v files files' e bytes same are is = is ∙ ap (λ (u : World). lin
 
 pub plain_is : (s : Trees) (f : Fault) (kind : FaultKind) → f.kind ≡ kind → f.args ≡ [] → refusal_of s f ≡ refusal kind []
 plain_is s f kind k none = rw (k, none) refl
+
+-- the events of a reply are the one refusal of such a fault
+pub refusal_is : (s u : Trees) (at : Pos) (f : Fault) (kind : FaultKind) (es told : List Told) → es ≡ told → map (event_of u) told ≡ events.refused at (refusal_of s f) ∷ [] → f.kind ≡ kind → f.args ≡ [] → map (event_of u) es ≡ events.refused at (refusal kind []) ∷ []
+refusal_is s u at f kind es told same is k none = ap (map (event_of u)) same ∙ is ∙ ap (λ (why : events.Refusal). events.refused at why ∷ []) (plain_is s f kind k none)
 
 -- a text is asked for
 module _ (texts : List (List ℕ × List ℕ)) (c : Configuration) (at : Pos) (name : List ℕ) where

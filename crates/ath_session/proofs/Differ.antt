@@ -1,5 +1,5 @@
 -- The parameters that a declaration lists differ, where it is spelled by tokens.
-use Rattle.std.proofs.Common.{◌≡◌, ℕ, Bool, true, List, [], ◌∷◌, ◌++◌, Option, Some, None, Result, Ok, Err, IfOk, sym, subst}
+use Rattle.std.proofs.Common.{ℕ, true, List, [], ◌∷◌, ◌++◌, Option, Some, None, Result, Ok, Err, IfOk, sym, subst}
 use Rattle.std.specs.Prelude.{IfSome}
 use Rattle.ath_syntax.specs.declared.directive.What.{What}
 use Rattle.ath_syntax.specs.declared.directive.Directive.{Directive}

@@ -15,9 +15,9 @@ use Rattle.ath_print.specs.declared.fault.FaultKind.TheVariants.{FileTooLong, To
 use Rattle.ath_eval.specs.Outcomes.{refusal}
 use Rattle.ath_session.specs.declared.status.Status.TheVariants.{Usage}
 use Rattle.ath_session.specs.State.{with_names}
-use Rattle.ath_session.specs.Directives.{Next, goes_on, loads, ends, effect}
+use Rattle.ath_session.specs.Directives.{Continuation, goes_on, loads, ends, effect}
 use Rattle.ath_session.specs.declared.limits.TheConstants.{MOST_BYTES, MOST_ASKED, MOST_LOADS}
-use Rattle.ath_session.specs.Run.{Item, asks, said, Configuration, Halt, Move, goes, halts, reading_of, opened, fetched, asking, beginning_of, next_file, following, place_of, turned, Turns, Moves, Runs, at_start, one_more}
+use Rattle.ath_session.specs.Run.{Item, asks, said, Configuration, Halt, Move, goes, halts, reading_of, opened, fetched, asking, beginning_of, next_file, following, place_of, turned, IsTurn, IsMove, Runs, at_start, one_more}
 use Rattle.ath_session.specs.Report.{Report, status_of, start, IsLogOf, IsReportOf}
 use Rattle.ath_session.specs.Steps.{IsGoing, AreGoing, Opens, weight}
 use Rattle.ath_session.specs.Laws.{SomeReport}
@@ -27,13 +27,13 @@ abbrev Texts : Type 0
 Texts = List (List ℕ × List ℕ)
 
 -- ---- each configuration has a move
-some_turn : (texts : Texts) (c : Configuration) (rs : List Reading) → (m : Move) × Turns texts c rs m
+some_turn : (texts : Texts) (c : Configuration) (rs : List Reading) → (m : Move) × IsTurn texts c rs m
 some_turn texts c [] = (next_file texts c c.waiting, refl)
 some_turn texts c (r ∷ rs) =
     let n = some_next r c.state.names (reading.byte_reached r.progress) in
     (turned texts c r rs n.0, (n.0, n.1, refl))
 
-pub some_move : (texts : Texts) (c : Configuration) → (m : Move) × Moves texts c m
+pub some_move : (texts : Texts) (c : Configuration) → (m : Move) × IsMove texts c m
 some_move texts c = some_turn texts c c.stack
 
 -- ---- what a step opens
@@ -68,7 +68,7 @@ record OpensIn (outer : ℕ) (c d : Configuration) : Type 0 where
 same_opens_in : (outer : ℕ) (c d : Configuration) → c ≡ d → OpensIn outer c d
 same_opens_in outer c d e = record { opens = same_opens c d e; few = inl (sym (ap (λ (k : Configuration). k.stack) e)) }
 
-followed_opens : (texts : Texts) (c d : Configuration) (outer : ℕ) (at : Pos) (es : List Event) (next : Next) (items : List Item) → following texts c outer at es next ≡ goes items d → OpensIn outer c d
+followed_opens : (texts : Texts) (c d : Configuration) (outer : ℕ) (at : Pos) (es : List Event) (next : Continuation) (items : List Item) → following texts c outer at es next ≡ goes items d → OpensIn outer c d
 followed_opens texts c d outer at es goes_on items e = let same : c ≡ d = cc in same_opens_in outer c d same
 followed_opens texts c d outer at es ends items e = absurd (cc)
 followed_opens texts c d outer at es (loads name) items e = by (nat_lt outer MOST_LOADS) refl e
@@ -138,7 +138,7 @@ module _ (texts : Texts) (c d : Configuration) (items : List Item) (r : Reading)
       let same : record c { stack = rs; state = with_names known c.state } ≡ d = cc in
       popped_less (sym (ap (λ (k : Configuration). k.waiting) same)) (sym (ap (λ (k : Configuration). k.stack) same))
 
-stack_less : (texts : Texts) (c d : Configuration) (items : List Item) (rs : List Reading) → c.stack ≡ rs → AreGoing c → length rs ≤ 17 → Turns texts c rs (goes items d) → IsLess c d
+stack_less : (texts : Texts) (c d : Configuration) (items : List Item) (rs : List Reading) → c.stack ≡ rs → AreGoing c → length rs ≤ 17 → IsTurn texts c rs (goes items d) → IsLess c d
 stack_less texts c d items [] is h few m = file_less texts c d items c.waiting refl is h (sym m)
 stack_less texts c d items (r ∷ rs) is h few (n, next, m) =
     let all = All-same IsGoing (r ∷ rs) c.stack (sym is) h in
@@ -158,7 +158,7 @@ ends_from (suc fuel) texts from done c runs less going few = by (ends_from fuel 
     Further : Type 0
     Further = (done : List Item) (c : Configuration) → Runs texts from done c → weight c < fuel → AreGoing c → length c.stack ≤ 17 → Ending texts from
 
-    by : Further → (m : Move) × Moves texts c m → Ending texts from
+    by : Further → (m : Move) × IsMove texts c m → Ending texts from
     by ih (halts last h, over) = record { log = done ++ last; halt = h; is = record { done = done; last = last; final = c; runs = runs; over = over; all = refl } }
     by ih (goes items d, moves) =
         let l = stack_less texts c d items c.stack refl going few moves in

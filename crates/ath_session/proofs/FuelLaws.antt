@@ -4,7 +4,7 @@ use Rattle.std.specs.Prelude.{nat_le, option_map, option_and_then}
 use Rattle.std.proofs.lemmas.Bool.Decides.{nat_tests}
 use Rattle.ath_sorts.proofs.Bools.{and_parts}
 use Rattle.std.specs.Str.Parse.{digits_value}
-use Rattle.ath_words.specs.Words.{Asked, Said, is_number, fuel_of, asked_by, said_by, any, run_of}
+use Rattle.ath_words.specs.Words.{Asked, Choices, is_number, fuel_of, asked_by, said_by, any, run_of}
 use Rattle.ath_words.specs.declared.limits.TheConstants.{MOST_FUEL}
 
 fuel_bounded : (t : Option (List ℕ)) (n : ℕ) → fuel_of t ≡ Some n → n ≤ MOST_FUEL
@@ -19,7 +19,7 @@ fuel_bounded (Some text) n e = by (is_number text && nat_le (digits_value 10 tex
         subst (λ (k : ℕ). k ≤ MOST_FUEL) same le
     by false f e = absurd (cc)
 
-asked_bounded : (said : Said) (a : Asked) → asked_by said ≡ Some a → a.fuel ≤ MOST_FUEL
+asked_bounded : (said : Choices) (a : Asked) → asked_by said ≡ Some a → a.fuel ≤ MOST_FUEL
 asked_bounded (given, []) a e = absurd (cc)
 asked_bounded (given, file ∷ files) a e = by (fuel_of given) refl e
   where
@@ -32,6 +32,6 @@ asked_bounded (given, file ∷ files) a e = by (fuel_of given) refl e
 pub run_bounded : (words : List (List ℕ)) (a : Asked) → Some a ≡ run_of words → a.fuel ≤ MOST_FUEL
 run_bounded words a e = by (said_by any None words) (sym e)
   where
-    by : (o : Option Said) → option_and_then asked_by o ≡ Some a → a.fuel ≤ MOST_FUEL
+    by : (o : Option Choices) → option_and_then asked_by o ≡ Some a → a.fuel ≤ MOST_FUEL
     by (Some said) e = asked_bounded said a e
     by None e = absurd (cc)

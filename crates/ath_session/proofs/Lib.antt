@@ -1,5 +1,4 @@
 pub mod AdvanceLaws
-pub mod BuiltLaws
 pub mod DeskLaws
 pub mod Existence
 pub mod MoveLaws
@@ -14,6 +13,7 @@ pub mod SoundLaws
 pub mod StatementLaws
 pub mod TellingLaws
 pub mod TopLaws
+pub mod UnbuiltLaws
 pub mod WeightLaws
 pub mod WholeLines
 mod DeclareLaws

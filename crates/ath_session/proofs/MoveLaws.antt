@@ -6,7 +6,7 @@ use Rattle.ath_syntax.specs.declared.place.Pos.{Pos}
 use Rattle.ath_print.specs.Events.{Event, refused}
 use Rattle.ath_print.specs.declared.fault.FaultKind.TheVariants.{TooManyLoads}
 use Rattle.ath_eval.specs.Outcomes.{refusal}
-use Rattle.ath_session.specs.Directives.{Next, goes_on, loads, ends, Effect}
+use Rattle.ath_session.specs.Directives.{Continuation, goes_on, loads, ends, Effect}
 use Rattle.ath_session.specs.declared.limits.TheConstants.{MOST_LOADS}
 use Rattle.ath_session.specs.Run.{Configuration, goes, halts, out_of_fuel, said, tell_all, asking, next_file, following}
 
@@ -22,8 +22,8 @@ next_is texts c file name names waits is = ap (next_file texts c) waits ∙ ap (
 
 -- what goes on after a directive with this effect
 module _ (texts : List (List ℕ × List ℕ)) (c d : Configuration) (outer : ℕ) (at : Pos) (e : Effect) (state : d ≡ record c { state = e.state }) where
-  there : (next : Next) → next ≡ e.next → following texts (record c { state = e.state }) outer at e.events e.next ≡ following texts d outer at e.events next
-  there next is = ap (λ (n : Next). following texts (record c { state = e.state }) outer at e.events n) (sym is) ∙ ap (λ (k : Configuration). following texts k outer at e.events next) (sym state)
+  there : (next : Continuation) → next ≡ e.next → following texts (record c { state = e.state }) outer at e.events e.next ≡ following texts d outer at e.events next
+  there next is = ap (λ (n : Continuation). following texts (record c { state = e.state }) outer at e.events n) (sym is) ∙ ap (λ (k : Configuration). following texts k outer at e.events next) (sym state)
 
   pub goes_is : (es : List Event) → es ≡ e.events → goes_on ≡ e.next → following texts (record c { state = e.state }) outer at e.events e.next ≡ goes (tell_all d es) d
   goes_is es same is = there goes_on is ∙ ap (λ (xs : List Event). goes (tell_all d xs) d) (sym same)

@@ -26,7 +26,7 @@ use Rattle.ath_session.specs.declared.desk.Flow.{Flow}
 use Rattle.ath_session.specs.declared.desk.Flow.TheVariants.{On, End}
 use Rattle.ath_session.specs.State.{State, with_names}
 use Rattle.ath_session.specs.Directives.{effect}
-use Rattle.ath_session.specs.Run.{Configuration, Move, goes, items_of, said, following, fault_kind, place_of, turned, Moves}
+use Rattle.ath_session.specs.Run.{Configuration, Move, goes, items_of, said, following, fault_kind, place_of, turned, IsMove}
 use Rattle.ath_session.specs.Ends.{Outside}
 use Rattle.ath_session.specs.Steps.{Did}
 use Rattle.ath_session.proofs.DeskLaws.{no_items}
@@ -51,7 +51,7 @@ pub around : (rs : List Reading) (r : Reading) → length (rs ++ r ∷ []) - 1 �
 around rs r = let e = length-append rs (r ∷ []) in let f = length-reverse rs in omega arith
 
 module _ (texts : List (List ℕ × List ℕ)) (c : Configuration) (r : Reading) (from : ℕ) (at : r.progress ≡ reached from) where
-  module _ (one : OneNext) (m : Move) (moves : Moves texts (record c { stack = r ∷ c.stack }) m) where
+  module _ (one : OneNext) (m : Move) (moves : IsMove texts (record c { stack = r ∷ c.stack }) m) where
     move_is : (n : Next) → IsNext r c.state.names from n → m ≡ turned texts (record c { stack = r ∷ c.stack }) r c.stack n
     move_is n h = moves.2 ∙ ap (turned texts (record c { stack = r ∷ c.stack }) r c.stack) (one r c.state.names from moves.0 n (subst (λ (b : ℕ). IsNext r c.state.names b moves.0) (ap byte_reached at) moves.1) h)
 

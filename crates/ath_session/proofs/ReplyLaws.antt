@@ -1,5 +1,5 @@
 -- The replies to a phrase's outcome, to a statement and to a directive.
-use Rattle.std.proofs.Common.{◌≡◌, ℕ, Bool, false, List, [], ◌∷◌, Option, Some, None, Result, Ok, Err, IfOk, sym, ◌∙◌, ap, subst}
+use Rattle.std.proofs.Common.{◌≡◌, ℕ, Bool, List, [], ◌∷◌, Option, Some, None, Result, Ok, Err, IfOk, sym, ◌∙◌, ap, subst}
 use Rattle.std.specs.Prelude.{slice_get}
 use Rattle.ath_sorts.specs.declared.sorts.Sym.{Sym}
 use Rattle.ath_syntax.specs.declared.place.Pos.{Pos}
@@ -30,12 +30,12 @@ use Rattle.ath_declarations.specs.Declarations as after
 use Rattle.ath_print.specs.Events as events
 use Rattle.ath_session.specs.State.{context, environment, left, joining}
 use Rattle.ath_base.specs.declared.entry.Origin.TheVariants.{Concluded}
-use Rattle.ath_session.specs.Built as built
+use Rattle.ath_session.specs.Unbuilt as built
 use Rattle.ath_session.specs.Directives.{effect, unless_unbuilt, done, declaring, asserting_sentence, asserting, showing, refusing, loading}
 use Rattle.ath_session.specs.declared.session.Next.TheVariants as next
 use Rattle.ath_session.specs.declared.session.Reply.{Reply}
 use Rattle.ath_session.specs.Session.{state_of, IsReply}
-use Rattle.ath_session.proofs.BuiltLaws.{place_here}
+use Rattle.ath_session.proofs.UnbuiltLaws.{place_here}
 use Rattle.ath_session.proofs.SessionLaws.{reply_as, refused_plainly, value_asserted, theorem_asserted, error_asserted, spent_asserted, value_shown, theorem_shown, error_shown, spent_shown}
 use Rattle.ath_session.proofs.StatementLaws.{domain_here, declare_here, assert_here, load_here, phrase_here, other_here, statement_here}
 
@@ -59,8 +59,8 @@ module _ (w v : World) (moved : Evaluates w v) (i : PhraseId) (o : code.Outcome)
     theorem_assertion u (Ok r) n p at e h = λ y k. reply_as u r _ _ (theorem_asserted w v moved p n.pos (place y) _ (outcome_is (out.Theorem p) e y k) (place_here w.phrases i n y at k)) h
     theorem_assertion u (Err m) n p at e h = tt
 
-    pub error_assertion : (a : Result Reply E) (at : Pos) (f : Fault) → o ≡ out.Error at f → IfOk a (λ r. IsReply v r (refusing (state_of v) at (refusal_of v.store f))) → IfOk a (Asserts v)
-    error_assertion (Ok r) at f e h = λ y k. reply_as v r _ _ (error_asserted w v moved at (place y) f _ (outcome_is (out.Error at f) e y k)) h
+    pub error_assertion : (a : Result Reply E) (at : Pos) (f : Fault) → o ≡ out.Error f at → IfOk a (λ r. IsReply v r (refusing (state_of v) at (refusal_of v.store f))) → IfOk a (Asserts v)
+    error_assertion (Ok r) at f e h = λ y k. reply_as v r _ _ (error_asserted w v moved at (place y) f _ (outcome_is (out.Error f at) e y k)) h
     error_assertion (Err m) at f e h = tt
 
     pub spent_assertion : (a : Result Reply E) (at : Pos) → o ≡ out.Exhausted at → IfOk a (λ r. (r.events.items ≡ telling.Fuel at ∷ []) × (r.next ≡ next.Stop)) → IfOk a (Asserts v)
@@ -71,8 +71,8 @@ module _ (w v : World) (moved : Evaluates w v) (i : PhraseId) (o : code.Outcome)
     value_showing (Ok r) x e h = λ y k. value_shown w v moved r x _ (outcome_is (out.Value x) e y k) h.0 h.1
     value_showing (Err m) x e h = tt
 
-    pub error_showing : (a : Result Reply E) (at : Pos) (f : Fault) → o ≡ out.Error at f → IfOk a (λ r. IsReply v r (refusing (state_of v) at (refusal_of v.store f))) → IfOk a (Shows v)
-    error_showing (Ok r) at f e h = λ y k. reply_as v r _ _ (error_shown w v moved at f _ (outcome_is (out.Error at f) e y k)) h
+    pub error_showing : (a : Result Reply E) (at : Pos) (f : Fault) → o ≡ out.Error f at → IfOk a (λ r. IsReply v r (refusing (state_of v) at (refusal_of v.store f))) → IfOk a (Shows v)
+    error_showing (Ok r) at f e h = λ y k. reply_as v r _ _ (error_shown w v moved at f _ (outcome_is (out.Error f at) e y k)) h
     error_showing (Err m) at f e h = tt
 
     pub spent_showing : (a : Result Reply E) (at : Pos) → o ≡ out.Exhausted at → IfOk a (λ r. (r.events.items ≡ telling.Fuel at ∷ []) × (r.next ≡ next.Stop)) → IfOk a (Shows v)
@@ -103,8 +103,8 @@ module _ (w u : World) (what : What) (at : Pos) where
     assert_tells (Ok r) n closed i e h = λ x k. let p = assert_here w.phrases what x k n closed i e in done_as r x (assert_is n closed p.0) p.2 (h p.0 p.1)
     assert_tells (Err k) n closed i e h = tt
 
-    pub load_tells : (a : Result Reply E) (b c : List ℕ) → what ≡ Load b → c ≡ b → IfOk a (λ r. IsReply u r (loading (state_of w) at c)) → IfOk a Tells
-    load_tells (Ok r) b c e m h = λ x k. done_as r x (load_is b) (load_here w.phrases what x k b e) (subst (λ (c : List ℕ). IsReply u r (loading (state_of w) at c)) m h)
+    pub load_tells : (a : Result Reply E) (b c : List ℕ) → what ≡ Load b → c ≡ b → IfOk a (λ r. IsReply u r (loading (state_of w) c)) → IfOk a Tells
+    load_tells (Ok r) b c e m h = λ x k. done_as r x (load_is b) (load_here w.phrases what x k b e) (subst (λ (c : List ℕ). IsReply u r (loading (state_of w) c)) m h)
     load_tells (Err k) b c e m h = tt
 
     pub phrase_tells : (a : Result Reply E) (i : PhraseId) → what ≡ Plain i → IfOk a (λ r. (x : Phrase) → IsPhrase w.phrases i x → IsReply u r (showing (state_of w) (outcome_of (context (state_of w)) (environment (state_of w)) x (left (state_of w))))) → IfOk a Tells

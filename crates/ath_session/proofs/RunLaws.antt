@@ -4,7 +4,7 @@ use Rattle.ath_words.specs.Words.{Asked, run_of}
 use Rattle.ath_reader.specs.Reading.{Reading}
 use Rattle.ath_reader.specs.Laws.{OneNext}
 use Rattle.ath_session.specs.declared.status.Status.{Status}
-use Rattle.ath_session.specs.Run.{Item, Configuration, Halt, Move, goes, halts, items_of, turned, Turns, Moves, Runs, at_start, one_more}
+use Rattle.ath_session.specs.Run.{Item, Configuration, Halt, Move, goes, halts, items_of, turned, IsTurn, IsMove, Runs, at_start, one_more}
 use Rattle.ath_session.specs.Report.{Report, status_of, start, IsLogOf, IsReportOf}
 use Rattle.ath_session.specs.Laws.{OneReport}
 
@@ -12,19 +12,19 @@ abbrev Texts : Type 0
 Texts = List (List ℕ × List ℕ)
 
 -- ---- one move
-one-turn : OneNext → (texts : Texts) (c : Configuration) (stack : List Reading) (m m' : Move) → Turns texts c stack m → Turns texts c stack m' → m ≡ m'
+one-turn : OneNext → (texts : Texts) (c : Configuration) (stack : List Reading) (m m' : Move) → IsTurn texts c stack m → IsTurn texts c stack m' → m ≡ m'
 one-turn one texts c [] m m' e e' = e ∙ sym e'
 one-turn one texts c (r ∷ rs) m m' t t' =
     let same = one r c.state.names _ t.0 t'.0 t.1 t'.1 in
     t.2 ∙ (ap (turned texts c r rs) same ∙ sym t'.2)
 
-pub one_move : OneNext → (texts : Texts) (c : Configuration) (m m' : Move) → Moves texts c m → Moves texts c m' → m ≡ m'
+pub one_move : OneNext → (texts : Texts) (c : Configuration) (m m' : Move) → IsMove texts c m → IsMove texts c m' → m ≡ m'
 one_move one texts c m m' t t' = one-turn one texts c c.stack m m' t t'
 
 -- ---- what a run does from a configuration on, to its end
 data Rest (texts : Texts) (h : Halt) : List Item → Configuration → Type 0 where
-  stops : {c : Configuration} (items : List Item) → Moves texts c (halts items h) → Rest texts h items c
-  moves : {more : List Item} {c d : Configuration} (items : List Item) → Moves texts c (goes items d) → Rest texts h more d → Rest texts h (items ++ more) c
+  stops : {c : Configuration} (items : List Item) → IsMove texts c (halts items h) → Rest texts h items c
+  moves : {more : List Item} {c d : Configuration} (items : List Item) → IsMove texts c (goes items d) → Rest texts h more d → Rest texts h (items ++ more) c
 
 -- some steps are put before
 put-before : (texts : Texts) (from : Configuration) (h : Halt) {done : List Item} {c : Configuration} → Runs texts from done c → (more : List Item) → Rest texts h more c → Rest texts h (done ++ more) from
@@ -42,7 +42,7 @@ record Left (texts : Texts) (h : Halt) (done log : List Item) (c : Configuration
   all : log ≡ done ++ more
 
 -- one step is taken off
-step-off : OneNext → (texts : Texts) (h : Halt) (done log items : List Item) (d : Configuration) {more : List Item} {c : Configuration} → Rest texts h more c → Moves texts c (goes items d) → log ≡ done ++ more → Left texts h (done ++ items) log d
+step-off : OneNext → (texts : Texts) (h : Halt) (done log items : List Item) (d : Configuration) {more : List Item} {c : Configuration} → Rest texts h more c → IsMove texts c (goes items d) → log ≡ done ++ more → Left texts h (done ++ items) log d
 step-off one texts h done log items d {c = c} (stops last over) m e =
     let wrong = one_move one texts c (halts last h) (goes items d) over m in
     absurd (cc)
@@ -66,7 +66,7 @@ left-after one texts from log h whole (one_more {done} {d = d} items runs m) =
 pub record After (texts : Texts) (h : Halt) (done log : List Item) (c : Configuration) : Type 0 where
   pub move : Move
   pub more : List Item
-  pub moves : Moves texts c move
+  pub moves : IsMove texts c move
   pub all : log ≡ done ++ (items_of move ++ more)
   pub over : (items : List Item) (halt : Halt) → move ≡ halts items halt → (halt ≡ h) × (more ≡ [])
 
@@ -92,7 +92,7 @@ log_after one texts from log h done c l runs =
     rest-after texts h done log left.rest left.all
 
 -- a final move says the whole log
-pub log_over : OneNext → (texts : Texts) (from : Configuration) (log : List Item) (h : Halt) (done : List Item) (c : Configuration) (last : List Item) (halt : Halt) → IsLogOf texts from log h → Runs texts from done c → Moves texts c (halts last halt) → (log ≡ done ++ last) × (h ≡ halt)
+pub log_over : OneNext → (texts : Texts) (from : Configuration) (log : List Item) (h : Halt) (done : List Item) (c : Configuration) (last : List Item) (halt : Halt) → IsLogOf texts from log h → Runs texts from done c → IsMove texts c (halts last halt) → (log ≡ done ++ last) × (h ≡ halt)
 log_over one texts from log h done c last halt l runs m =
     let after = log_after one texts from log h done c l runs in
     let same = one_move one texts c after.move (halts last halt) after.moves m in

@@ -1,42 +1,33 @@
 -- What a directive's reply stands for.
-use Rattle.std.proofs.Common.{◌≡◌, ℕ, ◌≤◌, Bool, true, false, List, [], ◌∷◌, ◌++◌, length, map, take, drop, Option, Some, None, if◌then◌else◌, refl, sym, ◌∙◌, ap, subst, arith}
-use Rattle.std.specs.Str.{is_utf8, IsUtf8}
-use Rattle.std.proofs.lemmas.Str.{IsUtf8-from_is_utf8, is_utf8-from_IsUtf8}
+use Rattle.std.proofs.Common.{◌≡◌, ℕ, ◌≤◌, List, [], ◌∷◌, ◌++◌, length, map, take, drop, Option, Some, None, refl, sym, ◌∙◌, ap, subst, arith}
 use Rattle.std.proofs.lemmas.List.{length-take, take-append-le, take-append-drop}
 use Rattle.std.proofs.lemmas.List.Elements.{All-nil, All-cons, All-same}
 use Rattle.ath_names.specs.Names.{Grows}
 use Rattle.ath_syntax.specs.declared.place.Pos.{Pos}
-use Rattle.ath_trees.specs.Tree.{Sent, atom}
 use Rattle.ath_terms.specs.Trees as trees
 use Rattle.ath_trees.specs.declared.node.SentId.{SentId}
-use Rattle.std.specs.Prelude.{IfSome}
-use Rattle.ath_sorts.specs.Signature.{boolean}
-use Rattle.ath_sorts.specs.Order.{same_sort}
-use Rattle.ath_trees.specs.Measure.{IsSmall}
-use Rattle.ath_env.specs.Values.{Value, a_term, a_sentence, a_symbol, a_connective, a_quantifier, a_back, a_method, sentence_of}
+use Rattle.ath_env.specs.Values.{sentence_of}
 use Rattle.ath_env.specs.Stands.{value_at, IsSentenceOf}
 use Rattle.ath_env.proofs.ValueLaws.{sentence-some, sentence-none}
 use Rattle.ath_env.specs.declared.value.Value as coded
 use Rattle.ath_print.specs.declared.fault.Fault.{Fault}
 use Rattle.ath_print.specs.declared.fault.FaultKind.{FaultKind}
-use Rattle.ath_print.specs.declared.fault.FaultKind.TheVariants.{NotSentence, BadUtf8}
+use Rattle.ath_print.specs.declared.fault.FaultKind.TheVariants.{NotSentence}
 use Rattle.ath_print.specs.declared.event.Event as told
 use Rattle.ath_print.specs.declared.event.Event.TheVariants as telling
 use Rattle.ath_print.specs.Events.{Event}
 use Rattle.ath_print.specs.Stands.{argument_of, refusal_of, event_of, IsEventIn}
 use Rattle.ath_eval.specs.declared.world.World.{World}
-use Rattle.ath_eval.specs.declared.world.Outcome as code
 use Rattle.ath_eval.specs.declared.world.Outcome.TheVariants as out
-use Rattle.ath_eval.specs.Arguments.{IsSmallValue}
 use Rattle.ath_base.specs.declared.entry.Origin.TheVariants.{Asserted, Concluded}
 use Rattle.ath_base.specs.declared.entry.Entry as entry
 use Rattle.ath_base.specs.declared.entry.Origin.{Origin}
 use Rattle.ath_base.specs.Base.{Entry}
-use Rattle.ath_base.proofs.Newest.{entries_last}
+use Rattle.ath_base.proofs.Newest.{entries_last, entries_grow}
 use Rattle.ath_base.specs.Stands.{entries_of}
 use Rattle.ath_eval.specs.World.{Evaluates, IsOutcome}
 use Rattle.ath_eval.specs.Outcomes.{left_of, Outcome, gives, concludes, fails, exhausts, refusal}
-use Rattle.ath_eval.proofs.Base.{base_same}
+use Rattle.ath_eval.proofs.Worlds.{base_same}
 use Rattle.ath_terms.specs.declared.fresh.Fresh.{Fresh}
 use Rattle.ath_session.specs.State.{State, with_left, joining}
 use Rattle.ath_session.specs.Directives.{loads, Effect, asserting_sentence, asserting, showing, refusing, ending, loading}
@@ -70,7 +61,7 @@ one_event s es e x h k m = (All-same (IsEventIn s) es (e ∷ []) h (All-cons (Is
 -- the state, where an evaluation has moved it
 pub state_moved : (w v : World) → Evaluates w v → state_of v ≡ with_left (state_of w) (left_of v.fuel v.fresh)
 state_moved w v e =
-    let b : entries_of v.store v.base.entries.items ≡ entries_of w.store w.base.entries.items = ap (entries_of v.store) e.base ∙ base_same w.store v.store e.grows w.base.entries.items w.in_store in
+    let b : entries_of v.store v.base.entries.items ≡ entries_of w.store w.base.entries.items = base_same w v e in
     let n = e.names in
     let g = e.signature in
     λ i. record { names = n i; signature = g i; base = b i; fuel = v.fuel; fresh = v.fresh }
@@ -82,7 +73,7 @@ state_left w v left made e f g = state_moved w v e ∙ (λ i. with_left (state_o
 module _ (w v : World) (moved : Evaluates w v) where
   pub value_asserted : (x : coded.Value) (at place : Pos) (o : Outcome) → IsOutcome v.store v.fuel v.fresh (out.Value x) o → place ≡ at → asserting_sentence (state_of v) at (sentence_of (value_at v.store x)) ≡ asserting (state_of w) place o
   value_asserted x at place (gives y after) h e =
-      let s = state_left w v after.fuel after.fresh moved h.2 h.3 in
+      let s = state_left w v after.fuel after.fresh moved h.1 h.2 in
       let p = sym e in
       let q = ap sentence_of h.0.1 in
       λ i. asserting_sentence (s i) (p i) (q i)
@@ -92,7 +83,7 @@ module _ (w v : World) (moved : Evaluates w v) where
 
   pub theorem_asserted : (p : SentId) (at place : Pos) (o : Outcome) → IsOutcome v.store v.fuel v.fresh (out.Theorem p) o → place ≡ at → asserting_sentence (state_of v) at (sentence_of (value_at v.store (coded.TheVariants.Sent p))) ≡ asserting (state_of w) place o
   theorem_asserted p at place (concludes y after) h e =
-      let s = state_left w v after.fuel after.fresh moved h.2 h.3 in
+      let s = state_left w v after.fuel after.fresh moved h.1 h.2 in
       let f = sym e in
       let q = h.0.1 in
       λ i. asserting_sentence (s i) (f i) (Some (q i))
@@ -100,7 +91,7 @@ module _ (w v : World) (moved : Evaluates w v) where
   theorem_asserted p at place (fails inner why after) h e = absurd h
   theorem_asserted p at place (exhausts inner made) h e = absurd h
 
-  pub error_asserted : (at place : Pos) (f : Fault) (o : Outcome) → IsOutcome v.store v.fuel v.fresh (out.Error at f) o → refusing (state_of v) at (refusal_of v.store f) ≡ asserting (state_of w) place o
+  pub error_asserted : (at place : Pos) (f : Fault) (o : Outcome) → IsOutcome v.store v.fuel v.fresh (out.Error f at) o → refusing (state_of v) at (refusal_of v.store f) ≡ asserting (state_of w) place o
   error_asserted at place f (fails inner why after) h =
       let s = state_left w v after.fuel after.fresh moved h.2 h.3 in
       let p = h.0 in
@@ -110,7 +101,7 @@ module _ (w v : World) (moved : Evaluates w v) where
   error_asserted at place f (concludes y after) h = absurd h
   error_asserted at place f (exhausts inner made) h = absurd h
 
-  pub error_shown : (at : Pos) (f : Fault) (o : Outcome) → IsOutcome v.store v.fuel v.fresh (out.Error at f) o → refusing (state_of v) at (refusal_of v.store f) ≡ showing (state_of w) o
+  pub error_shown : (at : Pos) (f : Fault) (o : Outcome) → IsOutcome v.store v.fuel v.fresh (out.Error f at) o → refusing (state_of v) at (refusal_of v.store f) ≡ showing (state_of w) o
   error_shown at f (fails inner why after) h =
       let s = state_left w v after.fuel after.fresh moved h.2 h.3 in
       let p = h.0 in
@@ -143,7 +134,7 @@ module _ (w v : World) (moved : Evaluates w v) where
   value_shown r x (gives y after) h e n = record {
     events = one_event v.store r.events.items (telling.Shown x) (Event.shown y) e h.0.0 (ap Event.shown h.0.1);
     next = ap next_of n;
-    state = state_left w v after.fuel after.fresh moved h.2 h.3;
+    state = state_left w v after.fuel after.fresh moved h.1 h.2;
   }
   value_shown r x (concludes y after) h e n = absurd h
   value_shown r x (fails inner why after) h e n = absurd h
@@ -152,7 +143,7 @@ module _ (w v : World) (moved : Evaluates w v) where
   -- the conclusion, when it has joined the base
   pub theorem_shown : (u : World) (r : Reply) (p : SentId) (o : Outcome) → IsOutcome v.store v.fuel v.fresh (out.Theorem p) o → u.store ≡ v.store → state_of u ≡ joining (state_of v) Concluded (trees.sent_at v.store.sents p.0) → r.events.items ≡ telling.Theorem p ∷ [] → r.next ≡ next.Go → IsReply u r (showing (state_of w) o)
   theorem_shown u r p (concludes y after) h m j e n =
-      let s = state_left w v after.fuel after.fresh moved h.2 h.3 in
+      let s = state_left w v after.fuel after.fresh moved h.1 h.2 in
       let q = h.0.1 in
       record {
         events = subst (λ (t : trees.Trees). AreEvents t r.events.items (Event.proved y ∷ [])) (sym m) (one_event v.store r.events.items (telling.Theorem p) (Event.proved y) e h.0.0 (ap Event.proved q));
@@ -162,47 +153,6 @@ module _ (w v : World) (moved : Evaluates w v) where
   theorem_shown u r p (gives y after) h m j e n = absurd h
   theorem_shown u r p (fails inner why after) h m j e n = absurd h
   theorem_shown u r p (exhausts inner made) h m j e n = absurd h
-
--- ---- the sentence of a value is within the limits
-small_sentence : (v : Value) → IsSmallValue v → IfSome (sentence_of v) IsSmall
-small_sentence (a_term t r) h = by (same_sort r boolean)
-  where
-    by : (b : Bool) → IfSome (if b then Some (atom t) else None) IsSmall
-    by true = h
-    by false = tt
-small_sentence (a_sentence p) h = h.0
-small_sentence (a_symbol f) h = tt
-small_sentence (a_connective c) h = tt
-small_sentence (a_quantifier q) h = tt
-small_sentence a_back h = tt
-small_sentence (a_method n) h = tt
-
-module _ (s : trees.Trees) (fuel : ℕ) (fresh : Fresh) (k : code.Outcome) (o : Outcome) (h : IsOutcome s fuel fresh k o) where
-  pub value_small : (x : coded.Value) → k ≡ out.Value x → IfSome (sentence_of (value_at s x)) IsSmall
-  value_small x is = by o (subst (λ (k : code.Outcome). IsOutcome s fuel fresh k o) is h)
-    where
-      by : (o : Outcome) → IsOutcome s fuel fresh (out.Value x) o → IfSome (sentence_of (value_at s x)) IsSmall
-      by (gives y after) h = subst (λ (v : Value). IfSome (sentence_of v) IsSmall) (sym h.0.1) (small_sentence y h.1)
-      by (concludes y after) h = absurd h
-      by (fails at why after) h = absurd h
-      by (exhausts at made) h = absurd h
-
-  pub theorem_small : (p : SentId) → k ≡ out.Theorem p → IsSmall (trees.sent_at s.sents p.0)
-  theorem_small p is = by o (subst (λ (k : code.Outcome). IsOutcome s fuel fresh k o) is h)
-    where
-      by : (o : Outcome) → IsOutcome s fuel fresh (out.Theorem p) o → IsSmall (trees.sent_at s.sents p.0)
-      by (concludes y after) h = subst (λ (q : Sent). IsSmall q) (sym h.0.1) h.1.0
-      by (gives y after) h = absurd h
-      by (fails at why after) h = absurd h
-      by (exhausts at made) h = absurd h
-
--- a sentence that is found is within the limits
-pub found_small : (t : trees.Trees) (found : Option SentId) (p : SentId) (x : Option Sent) → IsSentenceOf t found x → found ≡ Some p → IfSome x IsSmall → IsSmall (trees.sent_at t.sents p.0)
-found_small t found p x h is small = by x (subst (λ (f : Option SentId). IsSentenceOf t f x) is h) small
-  where
-    by : (x : Option Sent) → IsSentenceOf t (Some p) x → IfSome x IsSmall → IsSmall (trees.sent_at t.sents p.0)
-    by (Some y) h small = subst (λ (q : Sent). IsSmall q) (sym h.1) small
-    by None h small = absurd h
 
 -- ---- what is refused
 pub plain_refusal : (s : trees.Trees) (f : Fault) (k : FaultKind) → f.kind ≡ k → f.args ≡ [] → refusal_of s f ≡ refusal k []
@@ -217,7 +167,7 @@ module _ (w : World) (t : trees.Trees) (grown : trees.Grows w.store t) (x : code
   grown_state = record { names = w.names; signature = w.sig; base = entries_of t w.base.entries.items; fuel = w.fuel; fresh = w.fresh }
 
   same_state : grown_state ≡ state_of w
-  same_state = ap (λ (es : List Entry). record { names = w.names; signature = w.sig; base = es; fuel = w.fuel; fresh = w.fresh }) (base_same w.store t grown w.base.entries.items w.in_store)
+  same_state = ap (λ (es : List Entry). record { names = w.names; signature = w.sig; base = es; fuel = w.fuel; fresh = w.fresh }) (entries_grow w.store t grown w.base.entries.items w.in_store)
 
   pub no_sentence : (u : World) (r : Reply) (at : Pos) (found : Option SentId) (f : Fault) → IsSentenceOf t found (sentence_of (value_at w.store x)) → found ≡ None → f.kind ≡ NotSentence → f.args ≡ [] → IsReply u r (refusing grown_state at (refusal_of t f)) → IsReply u r (asserting_sentence (state_of w) at (sentence_of (value_at w.store x)))
   no_sentence u r at found f h e k a p =
@@ -238,20 +188,5 @@ module _ (w : World) (t : trees.Trees) (grown : trees.Grows w.store t) (x : code
       })
 
 -- ---- a file that is loaded
-no_utf8 : (b : List ℕ) → (IsUtf8 b → ⊥) → is_utf8 b ≡ false
-no_utf8 b h = by (is_utf8 b) refl
-  where
-    by : (t : Bool) → is_utf8 b ≡ t → is_utf8 b ≡ false
-    by true e = absurd (h (IsUtf8-from_is_utf8 b e))
-    by false e = e
-
-abbrev loading_if : Bool → State → Pos → List ℕ → Effect
-loading_if b st at name = if b then record { state = st; events = []; next = loads name } else refusing st at (refusal BadUtf8 [])
-
-pub load_refused : (w : World) (r : Reply) (at : Pos) (f : Fault) (name : List ℕ) → (IsUtf8 name → ⊥) → f.kind ≡ BadUtf8 → f.args ≡ [] → IsReply w r (refusing (state_of w) at (refusal_of w.store f)) → IsReply w r (loading (state_of w) at name)
-load_refused w r at f name h k a p = refused_plainly w r at f BadUtf8 (loading (state_of w) at name) k a (ap (λ b. loading_if b (state_of w) at name) (sym (no_utf8 name h))) p
-
-pub load_told : (w : World) (r : Reply) (at : Pos) (name : List ℕ) → IsUtf8 name → r.events.items ≡ [] → next_of r.next ≡ loads name → IsReply w r (loading (state_of w) at name)
-load_told w r at name h e n =
-    reply_as w r (record { state = state_of w; events = []; next = loads name }) _ (ap (λ b. loading_if b (state_of w) at name) (sym (is_utf8-from_IsUtf8 name h)))
-    (record { events = (All-same (IsEventIn w.store) r.events.items [] e (All-nil (IsEventIn w.store)), ap (map (event_of w.store)) e); next = n; state = refl })
+pub load_told : (w : World) (r : Reply) (name : List ℕ) → r.events.items ≡ [] → next_of r.next ≡ loads name → IsReply w r (loading (state_of w) name)
+load_told w r name e n = record { events = (All-same (IsEventIn w.store) r.events.items [] e (All-nil (IsEventIn w.store)), ap (map (event_of w.store)) e); next = n; state = refl }

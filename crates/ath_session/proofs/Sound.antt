@@ -1,13 +1,12 @@
 -- What a directive keeps; and each theorem of a run has a derivation.
 use Rattle.std.proofs.Common.{◌≡◌, ◌⊎◌, ℕ, ◌≤◌, Bool, true, false, true≢false, ◌||◌, nat_lt, List, [], ◌∷◌, ◌++◌, length, Option, Some, None, Result, Ok, Err, refl, sym, subst, inl, inr, le_refl, zero-le, if◌then◌else◌}
 use Rattle.std.specs.List.{list_any}
-use Rattle.std.specs.Str.{is_utf8}
 use Rattle.ath_io.specs.Shelf.{front_of}
 use Rattle.ath_words.specs.Words.{Asked, run_of}
 use Rattle.ath_sorts.specs.declared.sorts.Sym.{Sym}
 use Rattle.std.specs.Prelude.{IfSome}
 use Rattle.ath_sorts.specs.declared.signature.Flaw.{Flaw}
-use Rattle.ath_sorts.specs.Signature.{Signature, arity_of}
+use Rattle.ath_sorts.specs.Signature.{Signature}
 use Rattle.ath_sorts.proofs.ValidityLaws.{initial_valid}
 use Rattle.ath_sorts.specs.Validity.{AreDistinct, IsValid}
 use Rattle.ath_syntax.specs.declared.node.SortText.{SortText}
@@ -18,12 +17,12 @@ use Rattle.ath_syntax.specs.declared.place.Pos.{Pos}
 use Rattle.ath_syntax.specs.Tree.{Phrase, Statement, domain_is, datatype_is, declare_is, define_is, define_fun_is, assert_is, load_is, phrase_is, DirectiveTree, directive_at}
 use Rattle.ath_trees.specs.Tree.{Sent}
 use Rattle.ath_trees.specs.WellSorted.{IsWellSorted}
-use Rattle.ath_calculus.specs.Derives.{Derives, axiom_of, IsIn, AreDerivable}
+use Rattle.ath_calculus.specs.Derives.{Derives, axiom_of, IsAmong}
 use Rattle.ath_calculus.specs.Laws.{Extends}
 use Rattle.ath_calculus.specs.Theory.{Theory, theory_of}
 use Rattle.ath_calculus.proofs.Grown.{well_sorted}
 use Rattle.ath_env.specs.Values.{Value, sentence_of}
-use Rattle.ath_print.specs.declared.fault.FaultKind.TheVariants.{BadUtf8, FileTooLong, TooManyLoads}
+use Rattle.ath_print.specs.declared.fault.FaultKind.TheVariants.{FileTooLong, TooManyLoads}
 use Rattle.ath_print.specs.Events.{Refusal, Event, domain_added, symbols_added, asserted, proved, shown, refused, exhausted, is_refused, is_exhausted}
 use Rattle.ath_print.specs.Events as events
 use Rattle.ath_reader.specs.Reading.{Reading, reached}
@@ -34,17 +33,16 @@ use Rattle.ath_eval.specs.Outcomes.{Left, left_of, refusal, Outcome, gives, conc
 use Rattle.ath_eval.specs.Evaluation.{most_nested, outcome_of}
 use Rattle.ath_syntax.specs.Places.{place}
 use Rattle.ath_eval.specs.Laws.{ConclusionsFollow, IsSortedValue, ValuesAreSorted}
-use Rattle.ath_eval.specs.Laws.{Moves as NoneRises, FuelNeverRises as NeverRises}
+use Rattle.ath_eval.specs.Laws.{Spends, FuelNeverRises as NeverRises}
 use Rattle.ath_eval.proofs.Kept.{extends_of}
 use Rattle.ath_eval.proofs.Sound.{base_grown, base_joined, sentence-sorted}
 use Rattle.ath_grammar.proofs.TypedTable.{StatementDiffers, DirectiveDiffers}
 use Rattle.ath_session.proofs.Differ.{whole_differs}
 use Rattle.ath_session.specs.State.{State, first_state, context, environment, left, with_left, with_signature, with_names, joining}
-use Rattle.ath_session.specs.Built.{unbuilt_in}
-use Rattle.ath_session.specs.Directives.{Next, goes_on, loads, ends, Effect, telling, declaring, asserting, asserting_sentence, ending, showing, refusing, loading, done, unless_unbuilt, effect}
-use Rattle.ath_session.specs.Run.{Item, asks, tells, Configuration, Halt, Move, goes, halts, reading_of, opened, fetched, asking, beginning_of, next_file, tell_all, following, place_of, turned, Turns, Runs, at_start, one_more, said}
+use Rattle.ath_session.specs.Unbuilt.{unbuilt_in}
+use Rattle.ath_session.specs.Directives.{Continuation, goes_on, loads, ends, Effect, telling, declaring, asserting, asserting_sentence, ending, showing, refusing, loading, done, unless_unbuilt, effect}
+use Rattle.ath_session.specs.Run.{Item, asks, tells, Configuration, Halt, Move, goes, halts, reading_of, opened, fetched, asking, beginning_of, next_file, tell_all, following, place_of, turned, IsTurn, Runs, at_start, one_more, said}
 use Rattle.ath_session.specs.declared.limits.TheConstants.{MOST_BYTES, MOST_ASKED, MOST_LOADS}
-use Rattle.ath_session.specs.Said.{Said}
 use Rattle.ath_session.specs.Report.{Report, said_in, start, IsLogOf, IsReportOf}
 use Rattle.ath_session.specs.Sound.{IsSoundFor}
 use Rattle.ath_session.specs.Theorems.{asserted_after, IsJustified, AreJustified}
@@ -105,17 +103,13 @@ showing-kept st (concludes p after) = told-kept st (joining (with_left st after)
 showing-kept st (fails at why after) = refusing-kept st after at why
 showing-kept st (exhausts at made) = ending-kept st at made
 
-loading-kept : (st : State) (at : Pos) (name : List ℕ) → Kept st (loading st at name)
-loading-kept st at name = go (is_utf8 name)
-  where
-    go : (b : Bool) → Kept st (if b then record { state = st; events = []; next = loads name } else refusing st at (refusal BadUtf8 []))
-    go true = record { refusal = λ g. absurd (true≢false (sym g)); exhaustion = λ g. absurd (true≢false (sym g)) }
-    go false = refused-kept st at _
+loading-kept : (st : State) (name : List ℕ) → Kept st (loading st name)
+loading-kept st name = record { refusal = λ g. absurd (true≢false (sym g)); exhaustion = λ g. absurd (true≢false (sym g)) }
 
 done-kept : (st : State) (at : Pos) (s : Statement) → Kept st (done st at s)
 done-kept st at (declare_is ns params args result) = declaring-kept st at (symbols_added ns) refl refl (after.declared st.signature ns params args result)
 done-kept st at (assert_is n closed x) = asserting-kept st (place x) (outcome_of (context st) (environment st) x (left st))
-done-kept st at (load_is name) = loading-kept st at name
+done-kept st at (load_is name) = loading-kept st name
 done-kept st at (phrase_is x) = showing-kept st (outcome_of (context st) (environment st) x (left st))
 done-kept st at (domain_is n vs) = declaring-kept st at (domain_added n) refl refl (after.domain_declared st.signature n vs)
 done-kept st at (datatype_is n vs cs) = refused-kept st at _
@@ -150,30 +144,23 @@ sentence-moved : (st new : State) → Moved st new → (at : Pos) (o : Option Se
 sentence-moved st new h at (Some p) = h
 sentence-moved st new h at None = h
 
-asserting-moved : (st : State) (at : Pos) (o : Outcome) → NoneRises (left st) o → Moved st (asserting st at o).state
+asserting-moved : (st : State) (at : Pos) (o : Outcome) → Spends (left st) o → Moved st (asserting st at o).state
 asserting-moved st at (gives v after) h = sentence-moved st (with_left st after) h at (sentence_of v)
 asserting-moved st at (concludes p after) h = h
 asserting-moved st at (fails inner why after) h = h
 asserting-moved st at (exhausts inner made) h = (zero-le, h.0, h.1)
 
-showing-moved : (st : State) (o : Outcome) → NoneRises (left st) o → Moved st (showing st o).state
+showing-moved : (st : State) (o : Outcome) → Spends (left st) o → Moved st (showing st o).state
 showing-moved st (gives v after) h = h
 showing-moved st (concludes p after) h = h
 showing-moved st (fails at why after) h = h
 showing-moved st (exhausts at made) h = (zero-le, h.0, h.1)
 
-loading-moved : (st : State) (at : Pos) (name : List ℕ) → Moved st (loading st at name).state
-loading-moved st at name = go (is_utf8 name)
-  where
-    go : (b : Bool) → Moved st (if b then record { state = st; events = []; next = loads name } else refusing st at (refusal BadUtf8 [])).state
-    go true = not-moved st
-    go false = not-moved st
-
 module _ (never : NeverRises) where
   done-moved : (st : State) (at : Pos) (s : Statement) → Moved st (done st at s).state
   done-moved st at (declare_is ns params args result) = declaring-moved st at (symbols_added ns) (after.declared st.signature ns params args result)
   done-moved st at (assert_is n closed x) = asserting-moved st (place x) (outcome_of (context st) (environment st) x (left st)) (never (context st) (environment st) most_nested x (left st))
-  done-moved st at (load_is name) = loading-moved st at name
+  done-moved st at (load_is name) = not-moved st
   done-moved st at (phrase_is x) = showing-moved st (outcome_of (context st) (environment st) x (left st)) (never (context st) (environment st) most_nested x (left st))
   done-moved st at (domain_is n vs) = declaring-moved st at (domain_added n) (after.domain_declared st.signature n vs)
   done-moved st at (datatype_is n vs cs) = not-moved st
@@ -197,7 +184,7 @@ Tells sig ps [] st = IsSoundFor ps st
 Tells sig ps (e ∷ es) st = IsJustified sig ps e × Tells sig (asserted_after ps e) es st
 
 -- the name of a file is all that a load gives
-abbrev pub Does : List Sent → List Event → State → Next → Type 0
+abbrev pub Does : List Sent → List Event → State → Continuation → Type 0
 Does ps es st goes_on = Tells st.signature ps es st
 Does ps es st ends = Tells st.signature ps es st
 Does ps es st (loads name) = IsSoundFor ps st
@@ -206,15 +193,15 @@ abbrev pub DoesAll : List Sent → Effect → Type 0
 DoesAll ps e = Does ps e.events e.state e.next
 
 -- ---- one directive
-in-append : (p : Sent) (some others : List Sent) → IsIn p some → IsIn p (some ++ others)
+in-append : (p : Sent) (some others : List Sent) → IsAmong p some → IsAmong p (some ++ others)
 in-append p [] others h = absurd h
 in-append p (q ∷ some) others h = go h (in-append p some others)
   where
-    go : (p ≡ q) ⊎ IsIn p some → (IsIn p some → IsIn p (some ++ others)) → (p ≡ q) ⊎ IsIn p (some ++ others)
+    go : (p ≡ q) ⊎ IsAmong p some → (IsAmong p some → IsAmong p (some ++ others)) → (p ≡ q) ⊎ IsAmong p (some ++ others)
     go (inl e) rec = inl e
     go (inr i) rec = inr (rec i)
 
-is-last : (p : Sent) (some : List Sent) → IsIn p (some ++ p ∷ [])
+is-last : (p : Sent) (some : List Sent) → IsAmong p (some ++ p ∷ [])
 is-last p [] = inl refl
 is-last p (q ∷ some) = inr (is-last p some)
 
@@ -258,13 +245,6 @@ show-does ps st sound (concludes p after) f =
 show-does ps st sound (fails at why after) f = (tt, left-sound ps st after sound)
 show-does ps st sound (exhausts at made) f = (tt, left-sound ps st (left_of 0 made) sound)
 
-load-does : (ps : List Sent) (st : State) → IsSoundFor ps st → (at : Pos) (name : List ℕ) → DoesAll ps (loading st at name)
-load-does ps st sound at name = go (is_utf8 name)
-  where
-    go : (b : Bool) → DoesAll ps (if b then record { state = st; events = []; next = loads name } else refusing st at (refusal BadUtf8 []))
-    go true = sound
-    go false = (tt, sound)
-
 domain-grown : (old : Signature) (n : Sym) (vs : List Sym) → IsValid old → (sig : Signature) → after.domain_declared old n vs ≡ Ok sig → Extends (theory_of old) (theory_of sig) × IsValid sig
 domain-grown old n vs valid sig e = (extends_of old sig (domain_keeps old sig n vs e), domain_valid old sig n vs valid e)
 
@@ -282,7 +262,7 @@ module _ (follow : ConclusionsFollow) (values : ValuesAreSorted) where
   done-does : (ps : List Sent) (st : State) → IsSoundFor ps st → (at : Pos) (s : Statement) → StatementDiffers s → DoesAll ps (done st at s)
   done-does ps st sound at (declare_is ns params args result) differ = declare-does ps st sound at (symbols_added ns) (λ sig. tt) refl (after.declared st.signature ns params args result) (symbols-grown st.signature ns params args result sound.valid differ)
   done-does ps st sound at (assert_is n closed x) differ = assert-does ps st sound (place x) (outcome_of (context st) (environment st) x (left st)) (outcome-follows ps st sound x)
-  done-does ps st sound at (load_is name) differ = load-does ps st sound at name
+  done-does ps st sound at (load_is name) differ = sound
   done-does ps st sound at (phrase_is x) differ = show-does ps st sound (outcome_of (context st) (environment st) x (left st)) (outcome-follows ps st sound x)
   done-does ps st sound at (domain_is n vs) differ = declare-does ps st sound at (domain_added n) (λ sig. tt) refl (after.domain_declared st.signature n vs) (domain-grown st.signature n vs sound.valid)
   done-does ps st sound at (datatype_is n vs cs) differ = (tt, sound)
@@ -336,7 +316,7 @@ next-goes : (texts : Texts) (ps : List Sent) (c : Configuration) → IsSoundFor 
 next-goes texts ps c sound [] = tt
 next-goes texts ps c sound (name ∷ names) = asking-goes texts ps (record c { waiting = names }) sound (beginning_of (length c.files)) name
 
-following-goes : (texts : Texts) (ps : List Sent) (c : Configuration) (outer : ℕ) (at : Pos) (es : List Event) (next : Next) → Does ps es c.state next → GoesOn ps (following texts c outer at es next)
+following-goes : (texts : Texts) (ps : List Sent) (c : Configuration) (outer : ℕ) (at : Pos) (es : List Event) (next : Continuation) → Does ps es c.state next → GoesOn ps (following texts c outer at es next)
 following-goes texts ps c outer at es goes_on d = tells-goes c ps es c.state d
 following-goes texts ps c outer at es ends d = goes-justified ps (tell_all c es) c.state (tells-goes c ps es c.state d)
 following-goes texts ps c outer at es (loads name) d = go (nat_lt outer MOST_LOADS)
@@ -381,7 +361,7 @@ module _ (follow : ConclusionsFollow) (values : ValuesAreSorted) where
   turned-goes texts ps c sound r rs reading.ended differ = sound
   turned-goes texts ps c sound r rs (reading.stopped e known) differ = (tt, record { valid = sound.valid; has_boolean = sound.has_boolean; base = sound.base })
 
-  turn-goes : (texts : Texts) (ps : List Sent) (c : Configuration) → IsSoundFor ps c.state → (stack : List Reading) (m : Move) → Turns texts c stack m → GoesOn ps m
+  turn-goes : (texts : Texts) (ps : List Sent) (c : Configuration) → IsSoundFor ps c.state → (stack : List Reading) (m : Move) → IsTurn texts c stack m → GoesOn ps m
   turn-goes texts ps c sound [] m t = subst (GoesOn ps) (sym t) (next-goes texts ps c sound c.waiting)
   turn-goes texts ps c sound (r ∷ rs) m t = subst (GoesOn ps) (sym t.2) (turned-goes texts ps c sound r rs t.0 (next-differs r c.state.names (reading.byte_reached r.progress) t.0 t.1))
 

@@ -1,7 +1,6 @@
 -- The theorems of a directive are derivable from the asserted sentences of the state before it, and the state after it is sound.
-use Rattle.std.proofs.Common.{◌≡◌, Bool, true, false, List, [], ◌∷◌, Option, Some, None, Result, Ok, Err, refl, sym, ap, subst, if◌then◌else◌}
-use Rattle.std.specs.Prelude.{ℕ, map}
-use Rattle.std.specs.Str.{is_utf8}
+use Rattle.std.proofs.Common.{◌≡◌, List, [], Option, Some, None, Result, Ok, Err, refl, sym, subst}
+use Rattle.std.specs.Prelude.{map}
 use Rattle.ath_sorts.specs.declared.signature.Flaw.{Flaw}
 use Rattle.ath_sorts.specs.Signature.{Signature, arity_of, initial}
 use Rattle.ath_sorts.specs.Validity.{IsValid}
@@ -18,33 +17,32 @@ use Rattle.ath_syntax.specs.Stands.{IsStatement, says_domain, says_datatype, say
 use Rattle.ath_syntax.specs.Tree.{Statement, domain_is, datatype_is, declare_is, define_is, define_fun_is, assert_is, load_is, phrase_is, DirectiveTree, directive_at}
 use Rattle.ath_declarations.specs.Declarations as after
 use Rattle.ath_env.specs.Values.{sentence_of}
-use Rattle.ath_print.specs.declared.fault.FaultKind.TheVariants.{BadUtf8}
 use Rattle.ath_print.specs.Events.{Event, domain_added, symbols_added}
 use Rattle.ath_print.specs.Stands.{event_of}
 use Rattle.ath_grammar.proofs.TypedTable.{StatementDiffers, DirectiveDiffers}
 use Rattle.ath_eval.specs.declared.world.World.{World}
-use Rattle.ath_eval.specs.Outcomes.{refusal, Outcome, gives, concludes, fails, exhausts}
+use Rattle.ath_eval.specs.Outcomes.{Outcome, gives, concludes, fails, exhausts}
 use Rattle.ath_syntax.specs.Places.{place}
 use Rattle.ath_eval.specs.Evaluation.{outcome_of}
 use Rattle.ath_eval.proofs.Sound.{conclusions-follow, values-sorted}
 use Rattle.ath_session.specs.State.{State, context, environment, left, with_left, with_signature}
-use Rattle.ath_session.specs.Built.{unbuilt_in}
-use Rattle.ath_session.specs.Directives.{Effect, loads, declaring, asserting, asserting_sentence, showing, refusing, loading, done, unless_unbuilt, effect}
+use Rattle.ath_session.specs.Unbuilt.{unbuilt_in}
+use Rattle.ath_session.specs.Directives.{Effect, declaring, asserting, asserting_sentence, showing, done, unless_unbuilt, effect}
 use Rattle.ath_session.specs.declared.session.Reply.{Reply}
 use Rattle.ath_session.specs.Session.{state_of, IsReply, ParamsDiffer}
 use Rattle.ath_session.specs.Sound.{asserted_in, IsSoundFor, IsSound, AreFollowing}
-use Rattle.ath_session.specs.Theorems.{asserted_after}
+use Rattle.ath_session.specs.Theorems.{asserted_after, IsJustified}
 use Rattle.ath_session.proofs.Sound.{DoesAll, effect-does}
 
 abbrev IsSoundStep : State → Effect → Type 0
-IsSoundStep st e = AreFollowing st e.state.signature e.events × IsSound e.state
+IsSoundStep st e = AreFollowing st e.events × IsSound e.state
 
 abbrev Steps : State → Effect → Type 0
 Steps st e = DoesAll (asserted_in st.base) e → IsSoundStep st e
 
-declared : (st : State) (at : Pos) (x : Event) → asserted_after (asserted_in st.base) x ≡ asserted_in st.base → (o : Result Signature Flaw) → Steps st (declaring st at x o)
-declared st at x same (Ok sig) d = ((d.0, tt), subst (λ (qs : List Sent). IsSoundFor qs (with_signature st sig)) same d.1)
-declared st at x same (Err e) d = ((d.0, tt), d.1)
+declared : (st : State) (at : Pos) (x : Event) → IsJustified st.signature (asserted_in st.base) x → asserted_after (asserted_in st.base) x ≡ asserted_in st.base → (o : Result Signature Flaw) → Steps st (declaring st at x o)
+declared st at x just same (Ok sig) d = ((just, tt), subst (λ (qs : List Sent). IsSoundFor qs (with_signature st sig)) same d.1)
+declared st at x just same (Err e) d = ((d.0, tt), d.1)
 
 sentence : (st : State) (at : Pos) (o : Option Sent) → Steps st (asserting_sentence st at o)
 sentence st at (Some p) d = ((d.0, tt), d.1)
@@ -62,19 +60,12 @@ phrase st (concludes p after) d = ((d.0, tt), d.1)
 phrase st (fails at why after) d = ((d.0, tt), d.1)
 phrase st (exhausts at made) d = ((d.0, tt), d.1)
 
-load : (st : State) (at : Pos) (name : List ℕ) → Steps st (loading st at name)
-load st at name = go (is_utf8 name)
-  where
-    go : (b : Bool) → Steps st (if b then record { state = st; events = []; next = loads name } else refusing st at (refusal BadUtf8 []))
-    go true d = (tt, d)
-    go false d = ((d.0, tt), d.1)
-
 statement : (st : State) (at : Pos) (s : Statement) → Steps st (done st at s)
-statement st at (declare_is ns params args result) d = declared st at (symbols_added ns) refl (after.declared st.signature ns params args result) d
+statement st at (declare_is ns params args result) d = declared st at (symbols_added ns) tt refl (after.declared st.signature ns params args result) d
 statement st at (assert_is n closed x) d = assertion st (place x) (outcome_of (context st) (environment st) x (left st)) d
-statement st at (load_is name) d = load st at name d
+statement st at (load_is name) d = (tt, d)
 statement st at (phrase_is x) d = phrase st (outcome_of (context st) (environment st) x (left st)) d
-statement st at (domain_is n vs) d = declared st at (domain_added n) refl (after.domain_declared st.signature n vs) d
+statement st at (domain_is n vs) d = declared st at (domain_added n) tt refl (after.domain_declared st.signature n vs) d
 statement st at (datatype_is n vs cs) d = ((d.0, tt), d.1)
 statement st at (define_is n x) d = ((d.0, tt), d.1)
 statement st at (define_fun_is f xs x) d = ((d.0, tt), d.1)
@@ -106,12 +97,11 @@ module _ (old new : World) (d : Directive) (known : (t : DirectiveTree) × IsDir
   Replies r = (t : DirectiveTree) → IsDirective old.phrases d t → IsReply new r (effect (state_of old) t)
 
   abbrev AreTold : Reply → Type 0
-  AreTold r = AreFollowing (state_of old) new.sig (map (event_of new.store) r.events.items) × IsSound (state_of new)
+  AreTold r = AreFollowing (state_of old) (map (event_of new.store) r.events.items) × IsSound (state_of new)
 
   told : (e : Effect) (r : Reply) → IsReply new r e → IsSoundStep (state_of old) e → AreTold r
   told e r is step =
-      let after : AreFollowing (state_of old) new.sig e.events × IsSound (state_of new) = subst (λ (s : State). AreFollowing (state_of old) s.signature e.events × IsSound s) (sym is.state) step in
-      (subst (λ (es : List Event). AreFollowing (state_of old) new.sig es) (sym is.events.1) after.0, after.1)
+      (subst (AreFollowing (state_of old)) (sym is.events.1) step.0, subst IsSound (sym is.state) step.1)
 
   pub theorems_follow : (r : Reply) → Replies r → IsSound (state_of old) → AreTold r
   theorems_follow r h sound =

@@ -13,7 +13,7 @@ use Rattle.ath_syntax.specs.Stands.{IsPhrase, IsStatement, says_domain, says_dat
 use Rattle.ath_print.specs.declared.fault.FaultKind.TheVariants.{NotBuilt}
 use Rattle.ath_eval.specs.Outcomes.{refusal}
 use Rattle.ath_session.specs.State.{State}
-use Rattle.ath_session.specs.Built as built
+use Rattle.ath_session.specs.Unbuilt as built
 use Rattle.ath_session.specs.Directives.{done, refusing}
 
 module _ (s : Nodes) (w : What) (x : Statement) (h : IsStatement s w x) where

@@ -9,7 +9,7 @@ use Rattle.ath_session.specs.declared.desk.Flow.TheVariants.{On}
 use Rattle.ath_session.specs.declared.status.Status.{Status}
 use Rattle.ath_session.specs.declared.status.Status.TheVariants.{Clean, Errors, Usage, Fuel, SourceFault, SinkFault, Memory}
 use Rattle.ath_session.specs.Said.{line_said}
-use Rattle.ath_session.specs.Run.{Item, asks, tells, Configuration, Halt, all_run, out_of_fuel, Move, halts, items_of, Moves, Runs, at_start, one_more}
+use Rattle.ath_session.specs.Run.{Item, asks, tells, Configuration, Halt, all_run, out_of_fuel, Move, halts, items_of, IsMove, Runs, at_start, one_more}
 use Rattle.ath_session.specs.Report.{Report, is_error, has_error, status_of, start, IsLogOf, IsReportOf}
 use Rattle.ath_session.specs.Ends.{Outside, after_items, after_part, Performed, IsStatusOf, Reports}
 use Rattle.ath_reader.specs.Reading.{Reading}
@@ -34,16 +34,16 @@ module _ (texts : List (List ℕ × List ℕ)) (run : Asked) (o : Outside) where
   pub at-first : (c : Configuration) → c ≡ start run → At c false o
   at-first c e = record { done = []; runs = subst (λ d. Runs texts (start run) [] d) (sym e) at_start; told = refl; is = sym (no_items o) }
 
-  pub goes-on : {c c' : Configuration} {e e' : Bool} {now now' : Outside} (m : Move) → At c e now → Moves texts c m → Did m On e e' c' now now' → At c' e' now'
+  pub goes-on : {c c' : Configuration} {e e' : Bool} {now now' : Outside} (m : Move) → At c e now → IsMove texts c m → Did m On e e' c' now now' → At c' e' now'
   goes-on {c} {c'} {e} {e'} {now} {now'} m a move (items, (is, told, after)) = record {
     done = a.done ++ items;
-    runs = one_more items a.runs (subst (Moves texts c) is move);
+    runs = one_more items a.runs (subst (IsMove texts c) is move);
     told = told ∙ (ap (λ b. b || has_error items) a.told ∙ sym (list_any-append is_error a.done items));
     is = after ∙ (ap (λ p. after_items p items) a.is ∙ items_more o a.done items);
   }
 
   -- a final move makes the report
-  whole-report : (h : Halt) (status : Status) {c : Configuration} {e : Bool} {now now' : Outside} (items : List Item) → (a : At c e now) → Moves texts c (halts items h) → IsStatusOf status (status_of h (a.done ++ items)) → Performed status (a.done ++ items) o now' → Reports texts (Some run) status o now'
+  whole-report : (h : Halt) (status : Status) {c : Configuration} {e : Bool} {now now' : Outside} (items : List Item) → (a : At c e now) → IsMove texts c (halts items h) → IsStatusOf status (status_of h (a.done ++ items)) → Performed status (a.done ++ items) o now' → Reports texts (Some run) status o now'
   whole-report h status {c} items a move answer done =
       let log : IsLogOf texts (start run) (a.done ++ items) h = record { done = a.done; last = items; final = c; runs = a.runs; over = move; all = refl } in
       record {
@@ -62,7 +62,7 @@ module _ (texts : List (List ℕ × List ℕ)) (run : Asked) (o : Outside) where
 
   -- a part of the next move is done, and with it a part of the report
   part-reported : (status : Status) → ((written : Status) → IsStatusOf status written) → ((m : Move) (done more log : List Item) (errors : Bool) (now now' : Outside) → now ≡ after_items o done → log ≡ done ++ (items_of m ++ more) → Ended m status errors now now' → Performed status log o now')
-      → {c : Configuration} {e : Bool} {now now' : Outside} → At c e now → ((m : Move) → Moves texts c m → Ended m status e now now') → Reports texts (Some run) status o now'
+      → {c : Configuration} {e : Bool} {now now' : Outside} → At c e now → ((m : Move) → IsMove texts c m → Ended m status e now now') → Reports texts (Some run) status o now'
   part-reported status answer performed {c} {e} {now} {now'} a did =
       let l = run_ends texts run in
       let after = log_after one_next texts (start run) l.log l.halt a.done c l.is a.runs in
@@ -100,21 +100,21 @@ module _ (texts : List (List ℕ × List ℕ)) (run : Asked) (o : Outside) where
     ),
   )
 
-  out-of-fuel : {c : Configuration} {e : Bool} {now now' : Outside} → At c e now → (m : Move) → Moves texts c m → Ended m Fuel e now now' → Reports texts (Some run) Fuel o now'
+  out-of-fuel : {c : Configuration} {e : Bool} {now now' : Outside} → At c e now → (m : Move) → IsMove texts c m → Ended m Fuel e now now' → Reports texts (Some run) Fuel o now'
   out-of-fuel {c} {now' = now'} a m move (items, (is, after)) =
       let all : now' ≡ after_items o (a.done ++ items) = after ∙ (ap (λ p. after_items p items) a.is ∙ items_more o a.done items) in
-      whole-report out_of_fuel Fuel items a (subst (Moves texts c) is move) refl all
+      whole-report out_of_fuel Fuel items a (subst (IsMove texts c) is move) refl all
 
   -- what is done where the run ends
-  pub ends : (status : Status) (now' : Outside) {c : Configuration} {e : Bool} {now : Outside} → At c e now → ((m : Move) → Moves texts c m → Ended m status e now now') → Reports texts (Some run) status o now'
+  pub ends : (status : Status) (now' : Outside) {c : Configuration} {e : Bool} {now : Outside} → At c e now → ((m : Move) → IsMove texts c m → Ended m status e now now') → Reports texts (Some run) status o now'
   ends Clean now' {c} {e} a did =
       let m = some_move texts c in
       let d = did m.0 m.1 in
-      whole-report all_run Clean [] a (subst (Moves texts c) d.0 m.1) (ended-status e a.done a.told ∙ ap (λ b. if b then Errors else Clean) d.1) (nothing-more a d.2)
+      whole-report all_run Clean [] a (subst (IsMove texts c) d.0 m.1) (ended-status e a.done a.told ∙ ap (λ b. if b then Errors else Clean) d.1) (nothing-more a d.2)
   ends Errors now' {c} {e} a did =
       let m = some_move texts c in
       let d = did m.0 m.1 in
-      whole-report all_run Errors [] a (subst (Moves texts c) d.0 m.1) (ended-status e a.done a.told ∙ ap (λ b. if b then Errors else Clean) d.1) (nothing-more a d.2)
+      whole-report all_run Errors [] a (subst (IsMove texts c) d.0 m.1) (ended-status e a.done a.told ∙ ap (λ b. if b then Errors else Clean) d.1) (nothing-more a d.2)
   ends Fuel now' {c} a did = let m = some_move texts c in out-of-fuel a m.0 m.1 (did m.0 m.1)
   ends SourceFault now' a did = part-reported SourceFault (λ s. tt) source-performed a did
   ends SinkFault now' a did = part-reported SinkFault (λ s. tt) sink-performed a did

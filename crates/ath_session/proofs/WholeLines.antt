@@ -1,11 +1,10 @@
 -- What a run tells may be believed: its tables of names grow, and its lines are lines, since no name has an LF.
 use Rattle.std.proofs.Common.{◌≡◌, ℕ, Bool, true, false, nat_lt, List, [], ◌∷◌, ◌++◌, length, Option, Some, None, Result, Ok, Err, refl, sym, subst, if◌then◌else◌}
 use Rattle.std.specs.List.{AllByRecursion}
-use Rattle.std.specs.Str.{is_utf8}
 use Rattle.ath_io.specs.Shelf.{front_of}
 use Rattle.std.specs.Str.{bytes_eq}
 use Rattle.std.specs.List.{IsDistinct}
-use Rattle.ath_names.specs.Names.{Grows, first_names}
+use Rattle.ath_names.specs.Names.{Grows}
 use Rattle.ath_names.proofs.NamesLaws.{Grows-refl, Grows-trans}
 use Rattle.ath_words.specs.Words.{Asked}
 use Rattle.ath_sorts.specs.declared.signature.Flaw.{Flaw}
@@ -15,7 +14,7 @@ use Rattle.ath_syntax.specs.declared.place.Pos.{Pos}
 use Rattle.ath_syntax.specs.Tree.{Statement, domain_is, datatype_is, declare_is, define_is, define_fun_is, assert_is, load_is, phrase_is, DirectiveTree, directive_at}
 use Rattle.ath_trees.specs.Tree.{Sent}
 use Rattle.ath_env.specs.Values.{sentence_of}
-use Rattle.ath_print.specs.declared.fault.FaultKind.TheVariants.{BadUtf8, FileTooLong, TooManyLoads}
+use Rattle.ath_print.specs.declared.fault.FaultKind.TheVariants.{FileTooLong, TooManyLoads}
 use Rattle.ath_print.specs.Events as events
 use Rattle.ath_reader.specs.Reading.{Reading, reached, Front}
 use Rattle.ath_reader.specs.Ahead.{names_past}
@@ -24,12 +23,11 @@ use Rattle.ath_eval.specs.Outcomes.{refusal, Outcome, gives, concludes, fails, e
 use Rattle.ath_eval.specs.Evaluation.{outcome_of}
 use Rattle.ath_syntax.specs.Places.{place}
 use Rattle.ath_session.specs.State.{State, context, environment, left, with_left, with_names}
-use Rattle.ath_session.specs.Built.{unbuilt_in}
-use Rattle.ath_session.specs.Directives.{Next, goes_on, loads, ends, Effect, declaring, asserting, asserting_sentence, showing, refusing, loading, done, unless_unbuilt, effect}
+use Rattle.ath_session.specs.Unbuilt.{unbuilt_in}
+use Rattle.ath_session.specs.Directives.{Continuation, goes_on, loads, ends, Effect, declaring, asserting, asserting_sentence, showing, done, unless_unbuilt, effect}
 use Rattle.ath_session.specs.declared.limits.TheConstants.{MOST_BYTES, MOST_ASKED, MOST_LOADS}
-use Rattle.ath_session.specs.Said.{Said}
-use Rattle.ath_session.specs.Run.{Item, asks, tells, Configuration, Halt, Move, goes, halts, reading_of, opened, fetched, asking, beginning_of, next_file, tell_all, following, place_of, turned, Turns, Runs, at_start, one_more, said}
-use Rattle.ath_session.specs.Report.{Report, said_in, start, IsLogOf}
+use Rattle.ath_session.specs.Run.{Item, asks, tells, Configuration, Halt, Move, goes, halts, reading_of, opened, fetched, asking, beginning_of, next_file, tell_all, following, place_of, turned, IsTurn, Runs, at_start, one_more, said}
+use Rattle.ath_session.specs.Report.{said_in, start, IsLogOf}
 use Rattle.ath_session.specs.Believed.{IsLine, AreNamed}
 use Rattle.ath_session.proofs.PlainLines.{line_whole}
 use Rattle.ath_session.proofs.PlainNames.{Comes, past_comes, first_comes}
@@ -87,17 +85,10 @@ showing_names st (concludes p after) = refl
 showing_names st (fails at why after) = refl
 showing_names st (exhausts at made) = refl
 
-loading_names : (st : State) (at : Pos) (name : List ℕ) → HasNames st.names (loading st at name)
-loading_names st at name = go (is_utf8 name)
-  where
-    go : (b : Bool) → HasNames st.names (if b then record { state = st; events = []; next = loads name } else refusing st at (refusal BadUtf8 []))
-    go true = refl
-    go false = refl
-
 done_names : (st : State) (at : Pos) (s : Statement) → HasNames st.names (done st at s)
 done_names st at (declare_is ns params args result) = declaring_names st at (events.symbols_added ns) (after.declared st.signature ns params args result)
 done_names st at (assert_is n closed x) = asserting_names st (place x) (outcome_of (context st) (environment st) x (left st))
-done_names st at (load_is name) = loading_names st at name
+done_names st at (load_is name) = refl
 done_names st at (phrase_is x) = showing_names st (outcome_of (context st) (environment st) x (left st))
 done_names st at (domain_is n vs) = declaring_names st at (events.domain_added n) (after.domain_declared st.signature n vs)
 done_names st at (datatype_is n vs cs) = refl
@@ -149,7 +140,7 @@ file_whole : (texts : Texts) (c : Configuration) → Comes [] c.state.names → 
 file_whole texts c k [] = (c.state.names, here c k)
 file_whole texts c k (name ∷ names) = asking_whole texts (record c { waiting = names }) k (beginning_of (length c.files)) name
 
-following_whole : (texts : Texts) (c : Configuration) → Comes [] c.state.names → (outer : ℕ) (at : Pos) (es : List events.Event) (next : Next) → GoesWhole c.state.names (following texts c outer at es next)
+following_whole : (texts : Texts) (c : Configuration) → Comes [] c.state.names → (outer : ℕ) (at : Pos) (es : List events.Event) (next : Continuation) → GoesWhole c.state.names (following texts c outer at es next)
 following_whole texts c k outer at es goes_on = (told_whole c k es, k)
 following_whole texts c k outer at es ends = (c.state.names, told_whole c k es)
 following_whole texts c k outer at es (loads name) = go (nat_lt outer MOST_LOADS)
@@ -185,7 +176,7 @@ turned_whole texts c k r rs from (reading.stopped e known) next =
     let after : Configuration = record c { stack = rs; state = with_names known c.state } in
     (whole_behind c.state.names known (said after _ ∷ []) known both.0 (said_whole after both.1 _ [] (here after both.1)), both.1)
 
-turn_whole : (texts : Texts) (c : Configuration) → Comes [] c.state.names → (stack : List Reading) (m : Move) → Turns texts c stack m → GoesWhole c.state.names m
+turn_whole : (texts : Texts) (c : Configuration) → Comes [] c.state.names → (stack : List Reading) (m : Move) → IsTurn texts c stack m → GoesWhole c.state.names m
 turn_whole texts c k [] m t = subst (GoesWhole c.state.names) (sym t) (file_whole texts c k c.waiting)
 turn_whole texts c k (r ∷ rs) m t = subst (GoesWhole c.state.names) (sym t.2) (turned_whole texts c k r rs (reading.byte_reached r.progress) t.0 t.1)
 

@@ -1,8 +1,6 @@
 -- The effect of a directive: the state after it, and its events. One that is refused has one event, and keeps all of the
 -- state but the fuel and the counters.
-use Rattle.std.specs.Prelude.{ℕ, Bool, true, false, List, [], ◌∷◌, Option, Some, None, Result, Ok, Err, if◌then◌else◌}
-use Rattle.std.specs.Str.{is_utf8}
-use Rattle.ath_sorts.specs.declared.sorts.Sym.{Sym}
+use Rattle.std.specs.Prelude.{ℕ, List, [], ◌∷◌, Option, Some, None, Result, Ok, Err}
 use Rattle.ath_sorts.specs.declared.signature.Flaw.{Flaw}
 use Rattle.ath_sorts.specs.declared.signature.Flaw.TheVariants as flaw
 use Rattle.ath_sorts.specs.Signature.{Signature}
@@ -12,26 +10,26 @@ use Rattle.ath_syntax.specs.Tree.{Phrase, Statement, domain_is, datatype_is, dec
 use Rattle.ath_terms.specs.declared.fresh.Fresh.{Fresh}
 use Rattle.ath_trees.specs.Tree.{Sent}
 use Rattle.ath_env.specs.Values.{sentence_of}
-use Rattle.ath_print.specs.declared.fault.FaultKind.TheVariants.{BadUtf8, NotBuilt, NotSentence, Redeclared, TooWide, UnknownSort, Arity, SortTooLarge, LooseParam}
+use Rattle.ath_print.specs.declared.fault.FaultKind.TheVariants.{NotBuilt, NotSentence, Redeclared, TooWide, UnknownSort, Arity, SortTooLarge, LooseParam}
 use Rattle.ath_print.specs.Events.{name_named, variable_named, Refusal, Event, domain_added, symbols_added, asserted, proved, shown, refused, exhausted}
 use Rattle.ath_eval.specs.Outcomes.{left_of, Outcome, gives, concludes, fails, exhausts, refusal}
 use Rattle.ath_eval.specs.Evaluation.{outcome_of}
 use Rattle.ath_syntax.specs.Places.{place}
 use Rattle.ath_base.specs.declared.entry.Origin.TheVariants.{Asserted, Concluded}
 use Rattle.ath_session.specs.State.{State, context, environment, left, with_left, with_signature, joining}
-use Rattle.ath_session.specs.Built.{unbuilt_in}
+use Rattle.ath_session.specs.Unbuilt.{unbuilt_in}
 
 -- how the run goes on: with the next directive; with the text of a file in the directive's place; or not at all
-pub data Next : Type 0 where
-  goes_on : Next
-  loads : List ℕ → Next
-  ends : Next
+pub data Continuation : Type 0 where
+  goes_on : Continuation
+  loads : List ℕ → Continuation
+  ends : Continuation
 
 -- the state after a directive, its events in order, and how the run goes on
 pub record Effect : Type 0 where
   pub state : State
   pub events : List Event
-  pub next : Next
+  pub next : Continuation
 
 abbrev pub telling : State → Event → Effect
 telling st e = record { state = st; events = e ∷ []; next = goes_on }
@@ -76,9 +74,9 @@ showing st (concludes p after) = telling (joining (with_left st after) Concluded
 showing st (fails at why after) = refusing (with_left st after) at why
 showing st (exhausts at made) = ending st at made
 
--- no text spells a name that isn't UTF-8
-abbrev pub loading : State → Pos → List ℕ → Effect
-loading st at name = if is_utf8 name then record { state = st; events = []; next = loads name } else refusing st at (refusal BadUtf8 [])
+-- the text of this file is to be run next
+abbrev pub loading : State → List ℕ → Effect
+loading st name = record { state = st; events = []; next = loads name }
 
 -- the outcome of a phrase in this state
 abbrev pub outcome_in : State → Phrase → Outcome
@@ -89,7 +87,7 @@ abbrev pub done : State → Pos → Statement → Effect
 done st at (domain_is n vs) = declaring st at (domain_added n) (after.domain_declared st.signature n vs)
 done st at (declare_is ns params args result) = declaring st at (symbols_added ns) (after.declared st.signature ns params args result)
 done st at (assert_is n closed x) = asserting st (place x) (outcome_in st x)
-done st at (load_is name) = loading st at name
+done st at (load_is name) = loading st name
 done st at (phrase_is x) = showing st (outcome_in st x)
 done st at (datatype_is n vs cs) = refusing st at (refusal NotBuilt [])
 done st at (define_is n x) = refusing st at (refusal NotBuilt [])

@@ -1,9 +1,8 @@
 pub mod Believed
-pub mod Built
-pub mod BuiltParts
 pub mod Directives
 pub mod Ends
 pub mod Laws
+pub mod Parts
 pub mod Report
 pub mod Run
 pub mod Said
@@ -12,3 +11,4 @@ pub mod Sound
 pub mod State
 pub mod Steps
 pub mod Theorems
+pub mod Unbuilt

@@ -7,7 +7,7 @@ use Rattle.ath_session.specs.declared.status.Status.{Status}
 use Rattle.ath_session.specs.declared.status.Status.TheVariants.{Clean, Errors, Usage, Fuel, SourceFault}
 use Rattle.ath_session.specs.Said.{Said, line_said}
 use Rattle.ath_session.specs.State.{first_state}
-use Rattle.ath_session.specs.Run.{Item, asks, tells, Configuration, Halt, all_run, out_of_fuel, no_text, halts, Moves, Runs}
+use Rattle.ath_session.specs.Run.{Item, asks, tells, Configuration, Halt, all_run, out_of_fuel, no_text, halts, IsMove, Runs}
 
 -- what is done that is seen, in order, and the status
 pub record Report : Type 0 where
@@ -52,7 +52,7 @@ pub record IsLogOf (texts : List (List ℕ × List ℕ)) (from : Configuration) 
   pub last : List Item
   pub final : Configuration
   pub runs : Runs texts from done final
-  pub over : Moves texts final (halts last h)
+  pub over : IsMove texts final (halts last h)
   pub all : log ≡ done ++ last
 
 abbrev pub IsReportOf : List (List ℕ × List ℕ) → Option Asked → Report → Type 0

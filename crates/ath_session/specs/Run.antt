@@ -16,7 +16,7 @@ use Rattle.ath_eval.specs.Outcomes.{refusal}
 use Rattle.ath_session.specs.declared.limits.TheConstants.{MOST_BYTES, MOST_ASKED, MOST_LOADS}
 use Rattle.ath_session.specs.Said.{Said}
 use Rattle.ath_session.specs.State.{State, with_names}
-use Rattle.ath_session.specs.Directives.{Next, goes_on, loads, ends, Effect, effect}
+use Rattle.ath_session.specs.Directives.{Continuation, goes_on, loads, ends, Effect, effect}
 
 -- what a run does that is seen: it asks for the text of a name, or tells an event
 pub data Item : Type 0 where
@@ -88,7 +88,7 @@ abbrev pub saying : Configuration → events.Event → Move
 saying c e = goes (said c e ∷ []) c
 
 -- what goes on after a directive; `outer` is the number of texts that are open around its own
-abbrev pub following : List (List ℕ × List ℕ) → Configuration → ℕ → Pos → List events.Event → Next → Move
+abbrev pub following : List (List ℕ × List ℕ) → Configuration → ℕ → Pos → List events.Event → Continuation → Move
 following texts c outer at es goes_on = saying_all c es
 following texts c outer at es ends = halts (tell_all c es) out_of_fuel
 following texts c outer at es (loads name) =
@@ -133,15 +133,15 @@ turned texts c r rs (reading.stopped e known) =
     saying (record c { stack = rs; state = with_names known c.state }) (events.refused e.pos (refusal (fault_kind e.kind) []))
 
 -- the next step, by whether a text is open
-abbrev pub Turns : List (List ℕ × List ℕ) → Configuration → List Reading → Move → Type 0
-Turns texts c [] m = m ≡ next_file texts c c.waiting
-Turns texts c (r ∷ rs) m = (n : reading.Next) × reading.IsNext r c.state.names (reading.byte_reached r.progress) n × (m ≡ turned texts c r rs n)
+abbrev pub IsTurn : List (List ℕ × List ℕ) → Configuration → List Reading → Move → Type 0
+IsTurn texts c [] m = m ≡ next_file texts c c.waiting
+IsTurn texts c (r ∷ rs) m = (n : reading.Next) × reading.IsNext r c.state.names (reading.byte_reached r.progress) n × (m ≡ turned texts c r rs n)
 
 -- the next step of a run over these texts
-abbrev pub Moves : List (List ℕ × List ℕ) → Configuration → Move → Type 0
-Moves texts c m = Turns texts c c.stack m
+abbrev pub IsMove : List (List ℕ × List ℕ) → Configuration → Move → Type 0
+IsMove texts c m = IsTurn texts c c.stack m
 
 -- some steps, and what they did
 pub data Runs (texts : List (List ℕ × List ℕ)) (start : Configuration) : List Item → Configuration → Type 0 where
   at_start : Runs texts start [] start
-  one_more : {done : List Item} {c d : Configuration} (items : List Item) → Runs texts start done c → Moves texts c (goes items d) → Runs texts start (done ++ items) d
+  one_more : {done : List Item} {c d : Configuration} (items : List Item) → Runs texts start done c → IsMove texts c (goes items d) → Runs texts start (done ++ items) d

@@ -4,7 +4,6 @@ use Rattle.std.specs.List.{All}
 use Rattle.ath_sorts.specs.Validity.{AreDistinct}
 use Rattle.ath_syntax.specs.declared.directive.What.{What}
 use Rattle.ath_syntax.specs.declared.directive.What.TheVariants.{Declare}
-use Rattle.ath_terms.specs.SortsIn.{IsSortedIn}
 use Rattle.ath_terms.specs.Trees.{Trees, Grows}
 use Rattle.ath_print.specs.declared.event.Event as told
 use Rattle.ath_print.specs.Events.{Event}
@@ -15,14 +14,10 @@ use Rattle.ath_session.specs.declared.session.Next as answer
 use Rattle.ath_session.specs.declared.session.Next.TheVariants as code
 use Rattle.ath_session.specs.declared.session.Reply.{Reply}
 use Rattle.ath_session.specs.State.{State}
-use Rattle.ath_session.specs.Directives.{Next, goes_on, loads, ends, Effect}
+use Rattle.ath_session.specs.Directives.{Continuation, goes_on, loads, ends, Effect}
 
 abbrev pub state_of : World → State
 state_of w = record { names = w.names; signature = w.sig; base = entries_of w.store w.base.entries.items; fuel = w.fuel; fresh = w.fresh }
-
--- what is declared is valid, and the trees of the store are well-sorted in it
-abbrev pub IsSorted : World → Type 0
-IsSorted w = IsSortedIn w.sig w.store
 
 -- the parameters that a declaration lists differ
 abbrev pub ParamsDiffer : What → Type 0
@@ -33,7 +28,7 @@ ParamsDiffer w = Unit {0}
 abbrev pub AreEvents : Trees → List told.Event → List Event → Type 0
 AreEvents s es xs = All (IsEventIn s) es × (map (event_of s) es ≡ xs)
 
-abbrev pub next_of : answer.Next → Next
+abbrev pub next_of : answer.Next → Continuation
 next_of code.Go = goes_on
 next_of (code.Load name) = loads (string_bytes name)
 next_of code.Stop = ends

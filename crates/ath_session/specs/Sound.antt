@@ -1,7 +1,7 @@
 -- What holds of the state of a run at every moment, and so of the theorems of each directive.
-use Rattle.std.specs.Prelude.{◌≡◌, ℕ, List, [], ◌∷◌, ◌++◌, Some}
+use Rattle.std.specs.Prelude.{◌≡◌, List, [], ◌∷◌, ◌++◌, Some}
 use Rattle.std.specs.List.{AllByRecursion}
-use Rattle.ath_sorts.specs.Signature.{Signature, arity_of}
+use Rattle.ath_sorts.specs.Signature.{arity_of}
 use Rattle.ath_sorts.specs.Validity.{IsValid}
 use Rattle.ath_trees.specs.Tree.{Sent}
 use Rattle.ath_calculus.specs.Derives.{AreDerivable}
@@ -32,6 +32,7 @@ pub record IsSoundFor (ps : List Sent) (st : State) : Type 0 where
 abbrev pub IsSound : State → Type 0
 IsSound st = IsSoundFor (asserted_in st.base) st
 
--- each theorem among these events is derivable, under no hypotheses, from the asserted sentences of the state before them
-abbrev pub AreFollowing : State → Signature → List Event → Type 0
-AreFollowing st sig es = AllByRecursion (IsJustified sig (asserted_in st.base)) es
+-- each theorem among these events is derivable, under no hypotheses, from the asserted sentences of the state before them,
+-- in the signature of that state
+abbrev pub AreFollowing : State → List Event → Type 0
+AreFollowing st es = AllByRecursion (IsJustified st.signature (asserted_in st.base)) es

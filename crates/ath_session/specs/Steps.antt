@@ -1,9 +1,11 @@
 -- What a step of a run has done.
-use Rattle.std.specs.Prelude.{◌≡◌, ◌⊎◌, ℕ, ◌+◌, ◌-◌, ◌*◌, ◌^◌, ◌<◌, ◌≤◌, Bool, true, false, ◌||◌, List, [], ◌∷◌, ◌++◌, length, map, drop, take, reverse, string_bytes, Option}
+use Rattle.std.specs.Prelude.{◌≡◌, ◌⊎◌, ℕ, ◌+◌, ◌-◌, ◌*◌, ◌^◌, ◌<◌, ◌≤◌, Bool, true, false, ◌||◌, List, [], ◌∷◌, ◌++◌, length, map, drop, take, reverse, string_bytes, Option, Some}
 use Rattle.std.specs.List.{All}
 use Rattle.ath_io.specs.Shelf.{Texts}
 use Rattle.ath_io.specs.Sink.{Held}
 use Rattle.ath_syntax.specs.declared.place.Pos.{Pos}
+use Rattle.ath_syntax.specs.declared.directive.Directive.{Directive}
+use Rattle.ath_syntax.specs.Stands.{IsDirective}
 use Rattle.ath_syntax.specs.Tree.{DirectiveTree}
 use Rattle.ath_reader.specs.Reading.{Reading, Progress, reached, refused}
 use Rattle.ath_session.specs.declared.status.Status.{Status}
@@ -11,9 +13,9 @@ use Rattle.ath_session.specs.declared.status.Status.TheVariants.{Clean, Errors, 
 use Rattle.ath_session.specs.declared.desk.Desk.{Desk}
 use Rattle.ath_session.specs.declared.desk.Flow.{Flow}
 use Rattle.ath_session.specs.declared.desk.Flow.TheVariants.{On, End}
-use Rattle.ath_session.specs.declared.limits.TheConstants.{MOST_BYTES}
+use Rattle.ath_session.specs.declared.limits.TheConstants.{MOST_BYTES, MOST_OPEN}
 use Rattle.ath_session.specs.Said.{Said, line_said}
-use Rattle.ath_session.specs.Run.{Item, asks, tells, Configuration, reading_of, Move, goes, halts, items_of, all_run, out_of_fuel, taking}
+use Rattle.ath_session.specs.Run.{Item, asks, tells, Configuration, reading_of, Move, goes, halts, items_of, IsMove, all_run, out_of_fuel, taking}
 use Rattle.ath_session.specs.Report.{has_error}
 use Rattle.ath_session.specs.Directives.{effect}
 use Rattle.ath_session.specs.Session.{state_of}
@@ -60,10 +62,21 @@ DeskDid m flow old new before after = Did m flow old.errors new.errors (configur
 abbrev pub outside : Option Texts → Option Held → Outside
 outside texts held = record { shelf = texts; sink = held }
 
--- what a desk has done of a directive of its innermost text, and of what goes on after it
-abbrev pub DidDirective : List (List ℕ × List ℕ) → Pos → DirectiveTree → Flow → Desk → Desk → Outside → Outside → Type 0
-DidDirective texts at d flow old new before after =
-    DeskDid (taking texts (configuration_of old) (length old.open.items - 1) at (effect (configuration_of old).state d)) flow old new before after
+-- the same of the move that the texts make which the shelf tells
+abbrev pub DidOver : (List (List ℕ × List ℕ) → Move) → Flow → Desk → Desk → Outside → Outside → Type 0
+DidOver move flow old new before after = (t : Texts) → before.shelf ≡ Some t → DeskDid (move t.texts) flow old new before after
+
+-- the same of the move that is next, over these texts
+abbrev pub DidNext : Configuration → Flow → Desk → Desk → Outside → Outside → Type 0
+DidNext c flow old new before after = (t : Texts) (m : Move) → before.shelf ≡ Some t → IsMove t.texts c m → DeskDid m flow old new before after
+
+-- the same of a directive of the innermost text, and of what goes on after it
+abbrev pub directive_move : List (List ℕ × List ℕ) → Desk → Pos → DirectiveTree → Move
+directive_move texts old at d = taking texts (configuration_of old) (length old.open.items - 1) at (effect (configuration_of old).state d)
+
+abbrev pub DidDirective : Directive → Flow → Desk → Desk → Outside → Outside → Type 0
+DidDirective directive flow old new before after =
+    (t : Texts) (d : DirectiveTree) → before.shelf ≡ Some t → IsDirective old.session.world.phrases directive d → DeskDid (directive_move t.texts old directive.pos d) flow old new before after
 
 -- a text has been read up to a byte of it
 abbrev pub IsGoing : Reading → Type 0
@@ -84,7 +97,7 @@ IsOpened c name text false d = (MOST_BYTES < length text) × (d ≡ record c { f
 -- How much of a run is left, so that each step leaves less: the files that wait, and the bytes of the open texts, of which
 -- one counts as much as a whole text in it.
 abbrev pub whole_text : ℕ
-whole_text = 4194306
+whole_text = 2 + MOST_BYTES
 
 abbrev pub bytes_left : Reading → Progress → ℕ
 bytes_left r (reached n) = 1 + (length r.text - n)
@@ -92,7 +105,7 @@ bytes_left r (refused e) = 0
 
 abbrev pub open_weight : List Reading → ℕ
 open_weight [] = 0
-open_weight (r ∷ rs) = bytes_left r r.progress * whole_text ^ (17 - length rs) + open_weight rs
+open_weight (r ∷ rs) = bytes_left r r.progress * whole_text ^ (MOST_OPEN - length rs) + open_weight rs
 
 abbrev pub weight : Configuration → ℕ
-weight c = length c.waiting * whole_text ^ 18 + open_weight c.stack
+weight c = length c.waiting * whole_text ^ (1 + MOST_OPEN) + open_weight c.stack

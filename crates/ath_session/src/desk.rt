@@ -1,6 +1,6 @@
 // One step of a run: the next directive of the innermost text, or the next file.
 
-ghost use Rattle.std.specs.Prelude.{◌≡◌, ◌≤◌, ◌<◌, ◌-◌, [], ◌∷◌, length, map, Some, Option, IfOk, OnErr, true, false, ◌||◌};
+ghost use Rattle.std.specs.Prelude.{◌≡◌, ◌≤◌, ◌<◌, ◌-◌, [], ◌∷◌, length, map, Option, IfOk, OnErr, true, false, ◌||◌};
 ghost use Rattle.std.specs.List.{All};
 ghost use Rattle.ath_io.specs.Faults.{Rose};
 ghost use Rattle.ath_io.specs.Shelf.{Texts};
@@ -12,9 +12,9 @@ ghost use Rattle.ath_print.specs.Stands.{event_of, IsEventIn};
 ghost use Rattle.ath_terms.specs.Trees.{Trees};
 ghost use Rattle.ath_session.specs.declared.desk.Flow.TheVariants.{On, End};
 ghost use Rattle.ath_session.specs.declared.status.Status.TheVariants.{SourceFault as SourceFailed, SinkFault as SinkFailed, Usage as Unused};
-ghost use Rattle.ath_session.specs.Run.{Move, Moves, saying, saying_all, asking, next_file, with_open, lexical_kind, fault_kind};
-ghost use Rattle.ath_session.specs.Steps.{configuration_of, outside, DeskDid, DidDirective, AreGoing, Opens, IsOpened, weight};
-ghost use Rattle.ath_session.specs.Session.{state_of, IsSorted, ParamsDiffer};
+ghost use Rattle.ath_session.specs.Run.{saying, saying_all, asking, next_file, with_open, lexical_kind, fault_kind};
+ghost use Rattle.ath_session.specs.Steps.{configuration_of, outside, DeskDid, DidOver, DidNext, DidDirective, AreGoing, Opens, IsOpened, weight};
+ghost use Rattle.ath_session.specs.Session.{state_of, ParamsDiffer};
 
 use crate::limits::{MOST_ASKED, MOST_BYTES, MOST_LOADS, MOST_OPEN};
 use crate::session::{Next, Session};
@@ -54,7 +54,6 @@ fn is_error(event: &Event) -> bool
 /// Writes the line of an event.
 fn tell<K: Sink>(alloc: Global, desk: &mut Desk, event: &Event, sink: &mut K) -> Flow
     requires known { IsEventIn desk.old.session.world.store event.now }
-    requires sorted { IsSorted desk.old.session.world }
     ensures kept { desk.new ≡ record desk.old { errors = desk.new.errors } }
     ensures did { (told : Option Texts) → DeskDid (saying (configuration_of desk.old) (event_of desk.old.session.world.store event.now)) result desk.old desk.new (outside told (K.told sink.old)) (outside told (K.told sink.new)) }
     ensures sink_later { K.faults sink.old ≤ K.faults sink.new }
@@ -83,7 +82,6 @@ fn tell<K: Sink>(alloc: Global, desk: &mut Desk, event: &Event, sink: &mut K) ->
 /// Writes the lines of events, one after the other.
 fn tell_all<K: Sink>(alloc: Global, desk: &mut Desk, events: &[Event], sink: &mut K) -> Flow
     requires known { All (IsEventIn desk.old.session.world.store) events.now }
-    requires sorted { IsSorted desk.old.session.world }
     ensures kept { desk.new ≡ record desk.old { errors = desk.new.errors } }
     ensures did { (told : Option Texts) → DeskDid (saying_all (configuration_of desk.old) (map (event_of desk.old.session.world.store) events.now)) result desk.old desk.new (outside told (K.told sink.old)) (outside told (K.told sink.new)) }
     ensures sink_later { K.faults sink.old ≤ K.faults sink.new }
@@ -99,7 +97,7 @@ fn tell_all<K: Sink>(alloc: Global, desk: &mut Desk, events: &[Event], sink: &mu
     Flow::On
 }
 
-/// Writes the line of a fault that names nothing.
+/// Refuses what was read by a fault that names nothing, and writes the line of that.
 fn tell_fault<K: Sink>(
     alloc: Global,
     desk: &mut Desk,
@@ -107,7 +105,6 @@ fn tell_fault<K: Sink>(
     kind: FaultKind,
     sink: &mut K,
 ) -> Flow
-    requires { IsSorted desk.old.session.world }
     ensures kept { desk.new ≡ record desk.old { errors = desk.new.errors } }
     ensures did { (told : Option Texts) → DeskDid (saying (configuration_of desk.old) (refused at (refusal kind []))) result desk.old desk.new (outside told (K.told sink.old)) (outside told (K.told sink.new)) }
     ensures sink_later { K.faults sink.old ≤ K.faults sink.new }
@@ -115,8 +112,10 @@ fn tell_fault<K: Sink>(
     ensures no_source { result ≡ End SourceFailed → ⊥ }
     ensures no_usage { result ≡ End Unused → ⊥ }
 {
-    let event = Event::Error(at, Fault::plain(alloc, kind));
-    tell(alloc, desk, &event, sink)
+    let Ok(reply) = desk.session.refuse(alloc, at, Fault::plain(alloc, kind)) else {
+        return Flow::End(Status::Memory);
+    };
+    tell_all(alloc, desk, reply.events.as_slice(), sink)
 }
 
 /// Fetches the text of a name and opens it; a text that is too long is told at `at`.
@@ -128,9 +127,8 @@ fn ask<S: Shelf, K: Sink>(
     shelf: &mut S,
     sink: &mut K,
 ) -> Flow
-    requires { IsSorted desk.old.session.world }
     ensures session { desk.new.session ≡ desk.old.session }
-    ensures did { (t : Texts) → S.told shelf.old ≡ Some t → DeskDid (asking t.texts (configuration_of desk.old) at name.now) result desk.old desk.new (outside (S.told shelf.old) (K.told sink.old)) (outside (S.told shelf.new) (K.told sink.new)) }
+    ensures did { DidOver (λ texts. asking texts (configuration_of desk.old) at name.now) result desk.old desk.new (outside (S.told shelf.old) (K.told sink.old)) (outside (S.told shelf.new) (K.told sink.new)) }
     ensures opens { result ≡ On → Opens (configuration_of desk.old) (configuration_of desk.new) }
     ensures source_later { S.faults shelf.old ≤ S.faults shelf.new }
     ensures source_cause { result ≡ End SourceFailed → Rose (S.faults shelf.old) (S.faults shelf.new) }
@@ -196,9 +194,8 @@ fn fault_kind(kind: SyntaxKind) -> FaultKind
 /// The file of the command line that comes next, or the end.
 fn next_file<S: Shelf, K: Sink>(alloc: Global, desk: &mut Desk, shelf: &mut S, sink: &mut K) -> Flow
     requires empty { desk.old.open.items ≡ [] }
-    requires sorted { IsSorted desk.old.session.world }
     ensures session { desk.new.session ≡ desk.old.session }
-    ensures did { (t : Texts) → S.told shelf.old ≡ Some t → DeskDid (next_file t.texts (configuration_of desk.old) (configuration_of desk.old).waiting) result desk.old desk.new (outside (S.told shelf.old) (K.told sink.old)) (outside (S.told shelf.new) (K.told sink.new)) }
+    ensures did { DidOver (λ texts. next_file texts (configuration_of desk.old) (configuration_of desk.old).waiting) result desk.old desk.new (outside (S.told shelf.old) (K.told sink.old)) (outside (S.told shelf.new) (K.told sink.new)) }
     ensures going { result ≡ On → AreGoing (configuration_of desk.new) }
     ensures shallow { result ≡ On → length desk.new.open.items ≤ MOST_OPEN }
     ensures falls { result ≡ On → weight (configuration_of desk.new) < weight (configuration_of desk.old) }
@@ -238,9 +235,7 @@ fn run_directive<S: Shelf, K: Sink>(
 ) -> Flow
     requires directive { (d : DirectiveTree) × IsDirective desk.old.session.world.phrases directive.now d }
     requires differ { ParamsDiffer directive.now.what }
-    requires sorted { IsSorted desk.old.session.world }
-    ensures sorted { IsSorted desk.new.session.world }
-    ensures did { (t : Texts) (d : DirectiveTree) → S.told shelf.old ≡ Some t → IsDirective desk.old.session.world.phrases directive.now d → DidDirective t.texts directive.now.pos d result desk.old desk.new (outside (S.told shelf.old) (K.told sink.old)) (outside (S.told shelf.new) (K.told sink.new)) }
+    ensures did { DidDirective directive.now result desk.old desk.new (outside (S.told shelf.old) (K.told sink.old)) (outside (S.told shelf.new) (K.told sink.new)) }
     ensures opens { result ≡ On → Opens (configuration_of desk.old) (configuration_of desk.new) }
     ensures shallow { result ≡ On → length desk.old.open.items ≤ MOST_OPEN → length desk.new.open.items ≤ MOST_OPEN }
     ensures source_later { S.faults shelf.old ≤ S.faults shelf.new }
@@ -269,7 +264,6 @@ fn run_directive<S: Shelf, K: Sink>(
 
 /// A syntax error is told, and its text isn't open any more.
 fn refuse_text<K: Sink>(alloc: Global, desk: &mut Desk, error: SyntaxError, sink: &mut K) -> Flow
-    requires { IsSorted desk.old.session.world }
     ensures kept { desk.new ≡ record desk.old { errors = desk.new.errors } }
     ensures memory { error.kind ≡ SyntaxKind.Memory → (result ≡ End Status.Memory) × (K.told sink.new ≡ K.told sink.old) }
     ensures did { (error.kind ≡ SyntaxKind.Memory → ⊥) → (told : Option Texts) → DeskDid (saying (configuration_of desk.old) (refused error.pos (refusal (fault_kind error.kind) []))) result desk.old desk.new (outside told (K.told sink.old)) (outside told (K.told sink.new)) }
@@ -293,10 +287,8 @@ fn read_on<S: Shelf, K: Sink>(
     sink: &mut K,
 ) -> Flow
     requires shallow { length desk.old.open.items ≤ MOST_LOADS }
-    requires sorted { IsSorted desk.old.session.world }
     requires going { AreGoing (with_open reader (configuration_of desk.old)) }
-    ensures sorted { IsSorted desk.new.session.world }
-    ensures did { (t : Texts) (m : Move) → S.told shelf.old ≡ Some t → Moves t.texts (with_open reader (configuration_of desk.old)) m → DeskDid m result desk.old desk.new (outside (S.told shelf.old) (K.told sink.old)) (outside (S.told shelf.new) (K.told sink.new)) }
+    ensures did { DidNext (with_open reader (configuration_of desk.old)) result desk.old desk.new (outside (S.told shelf.old) (K.told sink.old)) (outside (S.told shelf.new) (K.told sink.new)) }
     ensures going { result ≡ On → AreGoing (configuration_of desk.new) }
     ensures shallow { result ≡ On → length desk.new.open.items ≤ MOST_OPEN }
     ensures falls { result ≡ On → weight (configuration_of desk.new) < weight (with_open reader (configuration_of desk.old)) }
@@ -327,10 +319,8 @@ pub(crate) fn advance<S: Shelf, K: Sink>(
     sink: &mut K,
 ) -> Flow
     requires shallow { length desk.old.open.items ≤ MOST_OPEN }
-    requires sorted { IsSorted desk.old.session.world }
     requires going { AreGoing (configuration_of desk.old) }
-    ensures sorted { IsSorted desk.new.session.world }
-    ensures did { (t : Texts) (m : Move) → S.told shelf.old ≡ Some t → Moves t.texts (configuration_of desk.old) m → DeskDid m result desk.old desk.new (outside (S.told shelf.old) (K.told sink.old)) (outside (S.told shelf.new) (K.told sink.new)) }
+    ensures did { DidNext (configuration_of desk.old) result desk.old desk.new (outside (S.told shelf.old) (K.told sink.old)) (outside (S.told shelf.new) (K.told sink.new)) }
     ensures going { result ≡ On → AreGoing (configuration_of desk.new) }
     ensures shallow { result ≡ On → length desk.new.open.items ≤ MOST_OPEN }
     ensures falls { result ≡ On → weight (configuration_of desk.new) < weight (configuration_of desk.old) }

@@ -12,16 +12,15 @@ ghost use Rattle.ath_syntax.specs.Places.{place};
 ghost use Rattle.ath_eval.specs.Outcomes.{refusal};
 ghost use Rattle.ath_env.specs.Values.{sentence_of};
 ghost use Rattle.ath_env.specs.Stands.{IsIn, value_at};
-ghost use Rattle.ath_trees.specs.Measure.{IsSmall};
 ghost use Rattle.ath_terms.specs.Trees.{Trees, sent_at};
 ghost use Rattle.ath_print.specs.Events.{domain_added, symbols_added};
 ghost use Rattle.ath_print.specs.Stands.{IsFault, IsFaultIn, event_of, refusal_of};
 ghost use Rattle.ath_session.specs.Directives.{outcome_in, effect, done, declaring, declaration_refusal, asserting, asserting_sentence, showing, loading, refusing};
-ghost use Rattle.ath_session.specs.Session.{state_of, IsSorted, ParamsDiffer, IsReply, KeepsNumbers};
+ghost use Rattle.ath_session.specs.Session.{state_of, ParamsDiffer, IsReply, KeepsNumbers};
 ghost use Rattle.ath_session.specs.Sound.{IsSound, AreFollowing};
 ghost use Rattle.ath_session.specs.State.{first_state, joining, with_names};
 
-use crate::built::unbuilt_in;
+use crate::unbuilt::unbuilt_in;
 use ath_base::{Base, Origin};
 use ath_declarations::{DeclareError, declare, declare_domain};
 use ath_env::{Value, sentence};
@@ -109,7 +108,6 @@ impl Session {
     pub fn new(alloc: Global, fuel: u64) -> Result<Session, AllocError>
         requires { fuel ≤ MOST_FUEL }
         ensures state { IfOk result (λ s. state_of s.world ≡ first_state fuel) }
-        ensures sorted { IfOk result (λ s. IsSorted s.world) }
         ensures sound { IfOk result (λ s. IsSound (state_of s.world)) }
     {
         let names = match Names::new(alloc) {
@@ -160,11 +158,9 @@ impl Session {
     pub fn directive(&mut self, alloc: Global, directive: &Directive) -> Result<Reply, AllocError>
         requires directive { (d : DirectiveTree) × IsDirective self.old.world.phrases directive.now d }
         requires differ { ParamsDiffer directive.now.what }
-        requires sorted { IsSorted self.old.world }
         ensures numbers { KeepsNumbers self.old.world self.new.world }
-        ensures sorted { IsSorted self.new.world }
         ensures reply { IfOk result (λ r. (d : DirectiveTree) → IsDirective self.old.world.phrases directive.now d → IsReply self.new.world r (effect (state_of self.old.world) d)) }
-        ensures theorems { IsSound (state_of self.old.world) → IfOk result (λ r. AreFollowing (state_of self.old.world) self.new.world.sig (map (event_of self.new.world.store) r.events.items) × IsSound (state_of self.new.world)) }
+        ensures theorems { IsSound (state_of self.old.world) → IfOk result (λ r. AreFollowing (state_of self.old.world) (map (event_of self.new.world.store) r.events.items) × IsSound (state_of self.new.world)) }
     {
         let reply = self.answer(alloc, directive)?;
         Ok(reply)
@@ -174,9 +170,7 @@ impl Session {
     fn answer(&mut self, alloc: Global, directive: &Directive) -> Result<Reply, AllocError>
         requires directive { (d : DirectiveTree) × IsDirective self.old.world.phrases directive.now d }
         requires differ { ParamsDiffer directive.now.what }
-        requires sorted { IsSorted self.old.world }
         ensures numbers { KeepsNumbers self.old.world self.new.world }
-        ensures sorted { IsSorted self.new.world }
         ensures reply { IfOk result (λ r. (d : DirectiveTree) → IsDirective self.old.world.phrases directive.now d → IsReply self.new.world r (effect (state_of self.old.world) d)) }
     {
         let world = &self.world;
@@ -207,9 +201,7 @@ impl Session {
     fn run_built(&mut self, alloc: Global, directive: &Directive) -> Result<Reply, AllocError>
         requires statement { (s : Statement) × IsStatement self.old.world.phrases directive.now.what s }
         requires differ { ParamsDiffer directive.now.what }
-        requires sorted { IsSorted self.old.world }
         ensures numbers { KeepsNumbers self.old.world self.new.world }
-        ensures sorted { IsSorted self.new.world }
         ensures reply { IfOk result (λ r. (s : Statement) → IsStatement self.old.world.phrases directive.now.what s → IsReply self.new.world r (done (state_of self.old.world) directive.now.pos s)) }
     {
         match &directive.what {
@@ -228,7 +220,7 @@ impl Session {
                 )
             }
             What::Assert(_, _, phrase) => self.assert(alloc, *phrase),
-            What::Load(name) => self.load(alloc, directive.pos, name.as_slice()),
+            What::Load(name) => self.load(alloc, name.as_str()),
             What::Phrase(phrase) => self.show(alloc, *phrase),
             _other => self.refusal(
                 alloc,
@@ -245,9 +237,7 @@ impl Session {
         name: Sym,
         vars: &[Sym],
     ) -> Result<Reply, AllocError>
-        requires { IsSorted self.old.world }
         ensures numbers { KeepsNumbers self.old.world self.new.world }
-        ensures sorted { IsSorted self.new.world }
         ensures reply { IfOk result (λ r. IsReply self.new.world r (declaring (state_of self.old.world) at (domain_added name) (domain_declared self.old.world.sig name vars.now))) }
     {
         match declare_domain(alloc, &mut self.world.sig, name, vars) {
@@ -266,9 +256,7 @@ impl Session {
         result_sort: &SortText,
     ) -> Result<Reply, AllocError>
         requires differ { IfSome list.now AreDistinct }
-        requires sorted { IsSorted self.old.world }
         ensures numbers { KeepsNumbers self.old.world self.new.world }
-        ensures sorted { IsSorted self.new.world }
         ensures reply { IfOk result (λ r. IsReply self.new.world r (declaring (state_of self.old.world) at (symbols_added names.now) (declared self.old.world.sig names.now list.now args.now result_sort.now))) }
     {
         match declare(alloc, &mut self.world.sig, names, list, args, result_sort) {
@@ -300,9 +288,9 @@ impl Session {
         Ok(reply)
     }
 
-    /// A sentence within the limits joins the base.
+    /// A sentence joins the base.
     fn join(&mut self, p: SentId, origin: Origin) -> Result<(), AllocError>
-        requires { (p.0 < length self.old.world.store.sents) × IsSmall (sent_at self.old.world.store.sents p.0) }
+        requires { p.0 < length self.old.world.store.sents }
         ensures numbers { KeepsNumbers self.old.world self.new.world }
         ensures store { self.new.world.store ≡ self.old.world.store }
         ensures sig { self.new.world.sig ≡ self.old.world.sig }
@@ -315,26 +303,21 @@ impl Session {
     /// Asserts the sentence of a phrase.
     fn assert(&mut self, alloc: Global, phrase: PhraseId) -> Result<Reply, AllocError>
         requires phrase { (x : Phrase) × IsPhrase self.old.world.phrases phrase x }
-        requires sorted { IsSorted self.old.world }
         ensures numbers { KeepsNumbers self.old.world self.new.world }
-        ensures sorted { IsSorted self.new.world }
         ensures reply { IfOk result (λ r. (x : Phrase) → IsPhrase self.old.world.phrases phrase x → IsReply self.new.world r (asserting (state_of self.old.world) (place x) (outcome_in (state_of self.old.world) x))) }
     {
         let at = self.world.phrases.node(phrase).pos;
         match run(alloc, &mut self.world, phrase)? {
             Outcome::Value(value) => self.assert_value(alloc, at, value),
             Outcome::Theorem(p) => self.assert_value(alloc, at, Value::Sent(p)),
-            Outcome::Error(at, fault) => self.refusal(alloc, at, fault),
+            Outcome::Error(fault, at) => self.refusal(alloc, at, fault),
             Outcome::Exhausted(at) => ending(alloc, at),
         }
     }
 
     fn assert_value(&mut self, alloc: Global, at: Pos, value: Value) -> Result<Reply, AllocError>
         requires known { IsIn self.old.world.store value }
-        requires small { IfSome (sentence_of (value_at self.old.world.store value)) IsSmall }
-        requires sorted { IsSorted self.old.world }
         ensures numbers { KeepsNumbers self.old.world self.new.world }
-        ensures sorted { IsSorted self.new.world }
         ensures reply { IfOk result (λ r. IsReply self.new.world r (asserting_sentence (state_of self.old.world) at (sentence_of (value_at self.old.world.store value)))) }
     {
         let Some(p) = sentence(&mut self.world.store, value)? else {
@@ -349,9 +332,7 @@ impl Session {
     /// Shows the value of an expression; the conclusion of a deduction joins the base.
     fn show(&mut self, alloc: Global, phrase: PhraseId) -> Result<Reply, AllocError>
         requires phrase { (x : Phrase) × IsPhrase self.old.world.phrases phrase x }
-        requires sorted { IsSorted self.old.world }
         ensures numbers { KeepsNumbers self.old.world self.new.world }
-        ensures sorted { IsSorted self.new.world }
         ensures reply { IfOk result (λ r. (x : Phrase) → IsPhrase self.old.world.phrases phrase x → IsReply self.new.world r (showing (state_of self.old.world) (outcome_in (state_of self.old.world) x))) }
     {
         match run(alloc, &mut self.world, phrase)? {
@@ -361,18 +342,15 @@ impl Session {
                 let reply = telling(alloc, Event::Theorem(p))?;
                 Ok(reply)
             }
-            Outcome::Error(at, fault) => self.refusal(alloc, at, fault),
+            Outcome::Error(fault, at) => self.refusal(alloc, at, fault),
             Outcome::Exhausted(at) => ending(alloc, at),
         }
     }
 
-    fn load(&self, alloc: Global, at: Pos, name: &[u8]) -> Result<Reply, AllocError>
-        ensures { IfOk result (λ r. IsReply self.now.world r (loading (state_of self.now.world) at name.now)) }
+    /// A load is answered by the name of its file.
+    fn load(&self, alloc: Global, name: &str) -> Result<Reply, AllocError>
+        ensures { IfOk result (λ r. IsReply self.now.world r (loading (state_of self.now.world) name.now)) }
     {
-        let Ok(name) = str::from_utf8(name) else {
-            let reply = self.refusal(alloc, at, Fault::plain(alloc, FaultKind::BadUtf8))?;
-            return Ok(reply);
-        };
         let name = String::from_str(alloc, name)?;
         Ok(Reply {
             events: Vec::new(alloc),

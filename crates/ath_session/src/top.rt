@@ -7,8 +7,7 @@ ghost use Rattle.ath_words.specs.Words.{run_of};
 ghost use Rattle.ath_session.specs.declared.status.Status.TheVariants.{Memory, SinkFault, SourceFault, Usage};
 ghost use Rattle.ath_session.specs.Believed.{BelievedTold};
 ghost use Rattle.ath_session.specs.Ends.{Reports, ReportsTold, Completes};
-ghost use Rattle.ath_session.specs.Session.{IsSorted};
-ghost use Rattle.ath_session.specs.Steps.{IsNewDesk};
+ghost use Rattle.ath_session.specs.Steps.{IsNewDesk, outside};
 
 use crate::desk::{Desk, Flow, advance};
 use crate::session::Session;
@@ -48,7 +47,6 @@ pub fn athena<S: Shelf, K: Sink>(
 fn desk_of(alloc: Global, fuel: u64, files: &[&str]) -> Result<Desk, AllocError>
     requires { fuel ≤ MOST_FUEL }
     ensures new { IfOk result (λ desk. IsNewDesk desk fuel (map (λ file. file.now) files.now)) }
-    ensures sorted { IfOk result (λ desk. IsSorted desk.session.world) }
 {
     let session = Session::new(alloc, fuel)?;
     let mut named = Vec::new(alloc);
@@ -74,7 +72,7 @@ fn run_files<S: Shelf, K: Sink>(
     sink: &mut K,
 ) -> Status
     requires { fuel ≤ MOST_FUEL }
-    ensures report { (t : Texts) → S.told shelf.old ≡ Some t → Reports t.texts (Some (record { fuel = fuel; files = map (λ file. file.now) files.now })) result (record { shelf = S.told shelf.old; sink = K.told sink.old }) (record { shelf = S.told shelf.new; sink = K.told sink.new }) }
+    ensures report { (t : Texts) → S.told shelf.old ≡ Some t → Reports t.texts (Some (record { fuel = fuel; files = map (λ file. file.now) files.now })) result (outside (S.told shelf.old) (K.told sink.old)) (outside (S.told shelf.new) (K.told sink.new)) }
     ensures no_usage { result ≡ Usage → ⊥ }
     ensures source_later { S.faults shelf.old ≤ S.faults shelf.new }
     ensures source_cause { result ≡ SourceFault → Rose (S.faults shelf.old) (S.faults shelf.new) }

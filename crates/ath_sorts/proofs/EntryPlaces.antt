@@ -1,10 +1,12 @@
 -- The table of a substitution's entries.
-use Rattle.std.proofs.Common.{◌≡◌, ℕ, zero, suc, Bool, true, false, cond, refl, ◌++◌, ◌∷◌, [], List, length, slice_get, Option, Some, None, is_some, sym, ◌∙◌, ap, arith, inl, inr}
+use Rattle.std.proofs.Common.{◌≡◌, ℕ, zero, suc, ◌<◌, ◌≤◌, Bool, true, false, cond, refl, ◌++◌, ◌∷◌, [], List, length, slice_get, Option, Some, None, is_some, sym, ◌∙◌, ap, arith, inl, inr}
 use Rattle.std.specs.Map.{lookup}
 use Rattle.ath_sorts.specs.declared.sorts.SVar.{SVar}
-use Rattle.ath_sorts.specs.declared.sorts.Sort.{Sort}
-use Rattle.ath_sorts.specs.Places.{HasEntries, sort_of_entry, sort_there}
-use Rattle.ath_sorts.specs.Sorts.{same_svar}
+use Rattle.ath_sorts.specs.declared.sorts.SVar.TheVariants.{Written, Made}
+use Rattle.ath_sorts.specs.declared.sorts.Sym.{Sym}
+use Rattle.ath_sorts.specs.declared.sorts.Sort.{Sort, Var}
+use Rattle.ath_sorts.specs.Places.{HasEntries, LeavesOthers, sort_of_entry, sort_there}
+use Rattle.ath_sorts.specs.Sorts.{same_svar, image}
 use Rattle.ath_sorts.specs.Substitutions.{entry_of}
 use Rattle.ath_sorts.proofs.Bools.{true-not-false}
 use Rattle.ath_sorts.proofs.Gets.{get-past, get-seam, some-not-none}
@@ -106,3 +108,17 @@ module _ (es : List (SVar × Sort)) (places : List (SVar × ℕ)) (v : SVar) (h 
 
   pub filed_here : (i : ℕ) (x : SVar × Sort) (b : Bool) → lookup (same_svar v) places ≡ Some i → slice_get es i ≡ Some x → same_svar x.0 v ≡ b → cond b (Some x.1) None ≡ entry_of es v
   filed_here i x b e f g = sym (ap (λ o. sort_there es o v) e ∙ ap (λ o. sort_of_entry o v) f ∙ ap (λ b. cond b (Some x.1) None) g) ∙ h v
+
+-- ---- which variables stay
+pub image-other : (v : SVar) (s : Sort) (w : SVar) (es : List (SVar × Sort)) → same_svar v w ≡ false → image (es ++ (v, s) ∷ []) w ≡ image es w
+image-other v s w [] d = ap (λ b. cond b s (Var w)) d
+image-other v s w (e ∷ es) d = ap (λ r. cond (same_svar e.0 w) e.1 r) (image-other v s w es d)
+
+pub leaves-fewer : (es : List (SVar × Sort)) (low lower : ℕ) (may might : Bool) → LeavesOthers es low may → lower ≤ low → (might ≡ false → may ≡ false) → LeavesOthers es lower might
+leaves-fewer es low lower may might h l m = record { made = λ n p. h.made n (omega arith); written = λ e. h.written (m e) }
+
+pub leaves-more : (es : List (SVar × Sort)) (v : SVar) (s : Sort) (low : ℕ) (may : Bool) → LeavesOthers es low may → ((n : ℕ) → n < low → same_svar v (Made n) ≡ false) → (may ≡ false → (a : Sym) → same_svar v (Written a) ≡ false) → LeavesOthers (es ++ (v, s) ∷ []) low may
+leaves-more es v s low may h made written = record {
+  made = λ n p. image-other v s (Made n) es (made n p) ∙ h.made n p;
+  written = λ e a. image-other v s (Written a) es (written e a) ∙ h.written e a;
+}

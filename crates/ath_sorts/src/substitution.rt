@@ -1,10 +1,11 @@
 // Sort substitutions.
 
-ghost use Rattle.std.specs.Prelude.{◌≡◌, ◌++◌, ◌∷◌, [], OnOk, ◌-◌, ◌≤◌, IsTrue, ◌↔◌, SomeIff, IfOk, map};
+ghost use Rattle.std.specs.Prelude.{◌≡◌, ℕ, ◌++◌, ◌∷◌, [], OnOk, ◌-◌, ◌<◌, ◌≤◌, false, IsTrue, ◌↔◌, SomeIff, IfOk, map};
 ghost use Rattle.std.specs.Option.{option_copied};
-ghost use Rattle.ath_sorts.specs.Sorts.{image, apply_to, size_of, depth_of, is_small};
+ghost use Rattle.ath_sorts.specs.Sorts.{same_svar, image, apply_to, size_of, depth_of, is_small};
 ghost use Rattle.ath_sorts.specs.Substitutions.{MatchApplied, entry_of};
 ghost use Rattle.ath_sorts.specs.declared.substitution.UnifyError.TheVariants.{Memory};
+ghost use Rattle.ath_sorts.specs.declared.sorts.Sym.{Sym};
 
 use crate::limits::{MOST_DEPTH, MOST_NODES, is_depth_within, nodes_left};
 use crate::sorts::{SVar, Sort, copied};
@@ -40,6 +41,8 @@ impl From<AllocError> for UnifyError {
 pub struct SortSubst {
     entries: Vec<(SVar, Sort)>,
     places: IndexMap<SVar, usize>,
+    lowest_made: u64,
+    may_move_written: bool,
 }
 
 impl Model for SortSubst {
@@ -48,7 +51,7 @@ impl Model for SortSubst {
     ghost use Rattle.ath_sorts.specs.declared.sorts.Sort.{Sort};
     ghost use Rattle.ath_sorts.specs.contracts.sorts.Sort as sort;
     ghost use Rattle.std.specs.Coded.{codes};
-    ghost use Rattle.ath_sorts.specs.Places.{HasEntries};
+    ghost use Rattle.ath_sorts.specs.Places.{HasEntries, LeavesOthers};
 
     ghost Value = { List (SVar × Sort) };
 
@@ -56,7 +59,27 @@ impl Model for SortSubst {
 
     ghost view = { λ s. s.entries.items };
 
-    ghost invariant = { λ s. HasEntries s.entries.items s.places.entries };
+    ghost invariant = { λ s. HasEntries s.entries.items s.places.entries × LeavesOthers s.entries.items s.lowest_made s.may_move_written };
+}
+
+fn lowest_with(lowest: u64, v: SVar) -> u64
+    ensures lower { result ≤ lowest }
+    ensures other { (n : ℕ) → n < result → same_svar v (SVar.Made n) ≡ false }
+{
+    match v {
+        SVar::Written(_) => lowest,
+        SVar::Made(number) => lowest.min(number),
+    }
+}
+
+fn written_with(written: bool, v: SVar) -> bool
+    ensures kept { result ≡ false → written ≡ false }
+    ensures other { result ≡ false → (a : Sym) → same_svar v (SVar.Written a) ≡ false }
+{
+    match v {
+        SVar::Written(_) => true,
+        SVar::Made(_) => written,
+    }
 }
 
 impl SortSubst {
@@ -67,13 +90,31 @@ impl SortSubst {
         SortSubst {
             entries: Vec::new(alloc),
             places: IndexMap::new(alloc),
+            lowest_made: u64::MAX,
+            may_move_written: false,
         }
+    }
+
+    /// No made variable with a lesser number is in the map.
+    pub fn lowest_made(&self) -> u64
+        ensures { (n : ℕ) → n < result → image self.now (SVar.Made n) ≡ Sort.Var (SVar.Made n) }
+    {
+        self.lowest_made
+    }
+
+    /// False where no written variable is in the map.
+    pub fn may_move_written(&self) -> bool
+        ensures { result ≡ false → (a : Sym) → image self.now (SVar.Written a) ≡ Sort.Var (SVar.Written a) }
+    {
+        self.may_move_written
     }
 
     /// Adds an entry behind those that are there.
     pub fn push(&mut self, v: SVar, sort: Sort) -> Result<(), AllocError>
         ensures { OnOk result (self.new ≡ self.old ++ (v, sort) ∷ []) }
     {
+        self.lowest_made = lowest_with(self.lowest_made, v);
+        self.may_move_written = written_with(self.may_move_written, v);
         if self.get(v).is_some() {
             self.entries.push((v, sort))?;
             return Ok(());

@@ -13,7 +13,7 @@ use Rattle.ath_syntax.specs.declared.node.PatNode.TheVariants.{Any, Name as PatN
 use Rattle.ath_syntax.specs.Nodes.{Nodes, Grows}
 use Rattle.ath_syntax.specs.Tree.{Pattern, any_pattern, name_pattern, string_pattern, list_pattern, list_of_pattern, app_pattern, some_pattern, Patterns, no_patterns, more_patterns, Phrase, name_at, variable_at, string_at, list_at, ascribe_at, apply_at, call_at, lambda_at, method_at, let_at, letrec_at, match_at, check_at, try_at, seq_at, assume_at, absurd_at, pick_any_at, pick_witness_at, induct_at, cases_at, conclude_at, Phrases, no_phrases, more_phrases, Bindings, no_bindings, more_bindings, Clauses, no_clauses, more_clauses, Branches, no_branches, more_branches, Otherwise, no_else, else_phrase}
 use Rattle.ath_syntax.specs.Stands.{IsPattern, is_pattern, IsPatternNode, pattern_is_any, pattern_is_name, pattern_is_string, pattern_is_list, pattern_is_list_of, pattern_is_app, pattern_is_some, ArePatterns, patterns_none, patterns_more, IsPhrase, is_phrase, IsForm, is_name, is_variable, is_string, is_list, is_ascribe, is_apply, is_call, is_lambda, is_method, is_let, is_letrec, is_match, is_check, is_try, is_seq, is_assume, is_absurd, is_pick_any, is_pick_witness, is_induct, is_cases, is_conclude, ArePhrases, phrases_none, phrases_more, AreBindings, bindings_none, bindings_more, AreClauses, clauses_none, clauses_more, AreBranches, branches_none, branches_more, IsOtherwise, otherwise_none, otherwise_some}
-use Rattle.ath_syntax.specs.Fits.{IsPart, IsKind, IsBound, IsClosure, OtherwiseFits, FitsForm, IsPatternPart, PatternFits, IsSound, before}
+use Rattle.ath_syntax.specs.Fits.{IsPart, IsKind, IsBound, IsClosure, OtherwiseFits, FitsForm, IsPatternPart, PatternFits, NodesFit, before}
 use Rattle.ath_syntax.proofs.Growth.{slice_get-front, slice_get_there, part_of_kind, part_of_closure}
 use Rattle.ath_syntax.proofs.NodeLaws.{node_of_form}
 use Rattle.std.proofs.Common.{drop, subst}
@@ -44,7 +44,7 @@ module _ (nodes : List PatNode) (k : ℕ) (ih : (j : PatId) → IsPatternPart (t
   pattern_node_exists (App x is) h = let a = patterns_exist is h in (app_pattern x a.0, pattern_is_app a.1)
   pattern_node_exists (SomeOf k x) h = (some_pattern k x, pattern_is_some)
 
-pattern_exists_below : (s : Nodes) → IsSound s → (k : ℕ) (i : PatId) → i.0 < k → IsPatternPart s.patterns i → (t : Pattern) × IsPattern s.patterns i t
+pattern_exists_below : (s : Nodes) → NodesFit s → (k : ℕ) (i : PatId) → i.0 < k → IsPatternPart s.patterns i → (t : Pattern) × IsPattern s.patterns i t
 pattern_exists_below s sound zero i lt part = absurd (omega (arith, lt))
 pattern_exists_below s sound (suc k) i lt part =
     let n = slice_get_there s.patterns i.0 part in
@@ -52,7 +52,7 @@ pattern_exists_below s sound (suc k) i lt part =
     (f.0, is_pattern n.1 f.1)
 
 -- every pattern's number stands for a tree
-pub pattern_exists : (s : Nodes) → IsSound s → (i : PatId) → IsPatternPart s.patterns i → (t : Pattern) × IsPattern s.patterns i t
+pub pattern_exists : (s : Nodes) → NodesFit s → (i : PatId) → IsPatternPart s.patterns i → (t : Pattern) × IsPattern s.patterns i t
 pattern_exists s sound i part = pattern_exists_below s sound (suc i.0) i (omega arith) part
 
 module _ (s : Nodes) (k : ℕ) (ih : (j : PhraseId) → IsPart (before s k) j → (t : Phrase) × IsPhrase s j t) where
@@ -125,7 +125,7 @@ module _ (s : Nodes) (k : ℕ) (ih : (j : PhraseId) → IsPart (before s k) j �
 Grows-before : (s : Nodes) (i : ℕ) → Grows (before s i) s
 Grows-before s i = record { phrase = λ j n h. slice_get_take s.phrases i j n h; pattern = λ j n h. h }
 
-phrase_exists_below : (s : Nodes) → IsSound s → (k : ℕ) (i : PhraseId) → i.0 < k → IsPart s i → (t : Phrase) × IsPhrase s i t
+phrase_exists_below : (s : Nodes) → NodesFit s → (k : ℕ) (i : PhraseId) → i.0 < k → IsPart s i → (t : Phrase) × IsPhrase s i t
 phrase_exists_below s sound zero i lt part = absurd (omega (arith, lt))
 phrase_exists_below s sound (suc k) i lt part =
     let n = slice_get_there s.phrases i.0 part in
@@ -134,5 +134,5 @@ phrase_exists_below s sound (suc k) i lt part =
     (f.0, is_phrase n.1 (node_of_form s n.0 f.0 (fits_kept (before s i.0) s (Grows-before s i.0) n.0 fits) f.1))
 
 -- every phrase's number stands for a tree
-pub phrase_exists : (s : Nodes) → IsSound s → (i : PhraseId) → IsPart s i → (t : Phrase) × IsPhrase s i t
+pub phrase_exists : (s : Nodes) → NodesFit s → (i : PhraseId) → IsPart s i → (t : Phrase) × IsPhrase s i t
 phrase_exists s sound i part = phrase_exists_below s sound (suc i.0) i (omega arith) part

@@ -3,4 +3,4 @@ pub mod Growth
 pub mod Kept
 pub mod NodeLaws
 pub mod One
-pub mod Sound
+pub mod Fitting

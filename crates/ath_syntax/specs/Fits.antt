@@ -113,6 +113,6 @@ abbrev pub before : Nodes → ℕ → Nodes
 before s i = record { phrases = take i s.phrases; patterns = s.patterns }
 
 -- every node fits those before it, so that its parts have smaller numbers
-pub record IsSound (s : Nodes) : Type 0 where
+pub record NodesFit (s : Nodes) : Type 0 where
   pub phrase : (i : ℕ) (n : Node) → slice_get s.phrases i ≡ Some n → Fits (before s i) n
   pub pattern : (i : ℕ) (n : PatNode) → slice_get s.patterns i ≡ Some n → PatternFits (take i s.patterns) n

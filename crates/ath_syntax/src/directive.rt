@@ -2,6 +2,7 @@
 
 use crate::node::{PhraseId, SortText};
 use crate::place::{Group, Pos};
+use crate::text::Text;
 use ath_sorts::Sym;
 use sqlite_items::Items;
 
@@ -22,7 +23,7 @@ pub enum What {
     ModuleBegin(Sym),
     ModuleEnd,
     Open(Sym),
-    Load(Items<u8>),
+    Load(Text),
     Operator(Sym, u32, Group),
     Phrase(PhraseId),
 }

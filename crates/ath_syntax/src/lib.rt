@@ -7,8 +7,10 @@ pub mod laws;
 pub mod node;
 pub mod phrases;
 pub mod place;
+pub mod text;
 
 pub use directive::{Directive, What};
 pub use node::{Form, Node, PatId, PatNode, PhraseId, SortText};
 pub use phrases::Phrases;
 pub use place::{Group, Pos};
+pub use text::Text;

@@ -1,6 +1,7 @@
 // Nodes of phrases and patterns.
 
 use crate::place::Pos;
+use crate::text::Text;
 use ath_sorts::Sym;
 use sqlite_items::Items;
 
@@ -26,7 +27,7 @@ pub enum SortText {
 pub enum Form {
     Name(Sym),
     Var(Sym, u64, Option<SortText>),
-    Str(Items<u8>),
+    Str(Text),
     List(Items<PhraseId>),
     Ascribe(PhraseId, SortText),
     Apply(PhraseId, Items<PhraseId>),
@@ -61,7 +62,7 @@ pub struct Node {
 pub enum PatNode {
     Any,
     Name(Sym),
-    Str(Items<u8>),
+    Str(Text),
     List(Items<PatId>),
     ListOf(PatId, PatId),
     App(Sym, Items<PatId>),

@@ -26,11 +26,11 @@ impl Model for Phrases {
 
     ghost coded = { Prim.hlevel (codes, sort_text.the_row.coded) };
 
-    ghost use Rattle.ath_syntax.specs.Fits.{IsSound};
+    ghost use Rattle.ath_syntax.specs.Fits.{NodesFit};
 
     ghost view = { λ s. record { phrases = s.phrases.items; patterns = s.patterns.items } };
 
-    ghost invariant = { λ s. IsSound (record { phrases = s.phrases.items; patterns = s.patterns.items }) };
+    ghost invariant = { λ s. NodesFit (record { phrases = s.phrases.items; patterns = s.patterns.items }) };
 }
 
 impl Phrases {
@@ -91,47 +91,5 @@ impl Phrases {
         ensures fits { PatternFits (take pattern.0 self.now.patterns) result.now }
     {
         &self.patterns[pattern.0]
-    }
-}
-
-#[cfg(test)]
-mod tests {
-    use super::*;
-    use crate::node::Form;
-    use crate::place::Pos;
-    use ath_sorts::Sym;
-    use sqlite_items::Items;
-    use std::test::Fail;
-
-    // `(!f)`, and the patterns `[_]` and `(some-term x)`
-    #[test]
-    fn nodes_have_numbers(rt: HostRuntime) -> Result<(), Fail> {
-        let mut phrases = Phrases::new(rt.alloc());
-        let name = phrases.add(Node {
-            pos: Pos {
-                file: 0,
-                line: 1,
-                col: 3,
-            },
-            deduction: false,
-            form: Form::Name(Sym(22)),
-        })?;
-        let call = phrases.add(Node {
-            pos: Pos {
-                file: 0,
-                line: 1,
-                col: 1,
-            },
-            deduction: true,
-            form: Form::Call(name, Items::new(rt.alloc())),
-        })?;
-        let any = phrases.add_pat(PatNode::Any)?;
-        let list = phrases.add_pat(PatNode::List(Items::from_slice(rt.alloc(), &[any])?))?;
-        let some = phrases.add_pat(PatNode::Some(Sym(18), Sym(23)))?;
-        assert_eq!(rt; (name, call), (PhraseId(0), PhraseId(1)));
-        assert_eq!(rt; (any, list, some), (PatId(0), PatId(1), PatId(2)));
-        assert!(rt; matches!(phrases.node(call).form, Form::Call(f, _) if f == name));
-        assert!(rt; matches!(phrases.pat(some), PatNode::Some(_, Sym(23))));
-        Ok(())
     }
 }

@@ -1,13 +1,11 @@
 -- The tree of a connective has its parts.
-use Rattle.std.proofs.Common.{◌≡◌, ℕ, ◌≤◌, ◌&&◌, Bool, true, false, List, [], ◌∷◌, length, map, take, Some, refl, sym, ◌∙◌, ap, arith}
+use Rattle.std.proofs.Common.{◌≡◌, ℕ, ◌&&◌, Bool, true, false, List, [], ◌∷◌, length, map, Some, refl, sym, ◌∙◌, ap, arith}
 use Rattle.std.specs.List.{list_all}
-use Rattle.std.proofs.lemmas.List.{take_all}
 use Rattle.ath_sorts.specs.declared.sorts.SVar.{SVar}
 use Rattle.ath_sorts.specs.declared.sorts.Sort.{Sort}
 use Rattle.ath_sorts.specs.Signature.{Signature}
 use Rattle.ath_trees.specs.SortsIn.{sent_has_small_sorts}
-use Rattle.ath_sorts.proofs.Bools.{and_parts}
-use Rattle.ath_trees.specs.Under.{sent_under, has_no_binder}
+use Rattle.ath_trees.specs.Under.{sent_under}
 use Rattle.ath_trees.specs.declared.node.Conn.{Conn}
 use Rattle.ath_trees.specs.declared.node.Binary.{Binary}
 use Rattle.ath_trees.specs.declared.node.Binary.TheVariants as binary
@@ -111,18 +109,26 @@ map-all p ss (i ∷ ids) = ap (λ b. p (sent_at ss i.0) && b) (map-all p ss ids)
 pub small_of_conn : (sig : Signature) (f : SVar → Sort) (c : Conn) (ss : List Sent) (ids : List SentId) → length ids ≡ arity c → sent_has_small_sorts sig (sent_under f (conn_tree c (map (λ i. sent_at ss i.0) ids))) ≡ list_all (λ i. sent_has_small_sorts sig (sent_under f (sent_at ss i.0))) ids
 small_of_conn sig f c ss ids l = small_parts sig f (parts_of c (map (λ i. sent_at ss i.0) ids) (length-map (λ i. sent_at ss i.0) ids ∙ l)) ∙ map-all (λ q. sent_has_small_sorts sig (sent_under f q)) ss ids
 
-free_parts : {c : Conn} {ss : List Sent} {p : Sent} → Parts c ss p → list_all has_no_binder ss ≡ true → has_no_binder p ≡ true
-free_parts (one {p}) e = (and_parts (has_no_binder p) true e).0
-free_parts (two {c} {p} {q}) e =
-    let x = and_parts (has_no_binder p) (has_no_binder q && true) e in
-    let y = and_parts (has_no_binder q) true x.1 in
-    rw (x.0, y.0) refl
+pub under_of_list : (f : SVar → Sort) (c : Conn) (ss : List Sent) → length ss ≡ arity c → sent_under f (conn_tree c ss) ≡ conn_tree c (map (sent_under f) ss)
+under_of_list f c ss l = under_parts f (parts_of c ss l)
 
--- it has no binder where its parts have none
-pub free_of_conn : (c : Conn) (ss : List Sent) (ids xs : List SentId) (n : ℕ) → length ids ≡ arity c → xs ≡ ids → length xs ≤ n → list_all (λ i. has_no_binder (sent_at ss i.0)) (take n xs) ≡ true → has_no_binder (conn_tree c (map (λ i. sent_at ss i.0) ids)) ≡ true
-free_of_conn c ss ids xs n l same m e =
-    let all = ap (list_all (λ i. has_no_binder (sent_at ss i.0))) (sym (take_all n xs m ∙ same)) ∙ e in
-    free_parts (parts_of c (map (λ i. sent_at ss i.0) ids) (length-map (λ i. sent_at ss i.0) ids ∙ l)) (map-all has_no_binder ss ids ∙ all)
+vars_in_parts : (found : List Var) {c : Conn} {ss : List Sent} {p : Sent} → Parts c ss p → with_sent found p ≡ with_sents found ss
+vars_in_parts found one = refl
+vars_in_parts found two = refl
+
+pub vars_of_list : (found : List Var) (c : Conn) (ss : List Sent) → length ss ≡ arity c → with_sent found (conn_tree c ss) ≡ with_sents found ss
+vars_of_list found c ss l = vars_in_parts found (parts_of c ss l)
+
+ends : (b : Bool) → b ≡ (b && true)
+ends true = refl
+ends false = refl
+
+small_in_parts : (sig : Signature) {c : Conn} {ss : List Sent} {p : Sent} → Parts c ss p → sent_has_small_sorts sig p ≡ list_all (sent_has_small_sorts sig) ss
+small_in_parts sig (one {p}) = ends (sent_has_small_sorts sig p)
+small_in_parts sig (two {c} {p} {q}) = ap (λ b. sent_has_small_sorts sig p && b) (ends (sent_has_small_sorts sig q))
+
+pub small_of_list : (sig : Signature) (c : Conn) (ss : List Sent) → length ss ≡ arity c → sent_has_small_sorts sig (conn_tree c ss) ≡ list_all (sent_has_small_sorts sig) ss
+small_of_list sig c ss l = small_in_parts sig (parts_of c ss l)
 
 -- over two nodes of a store
 module _ (ts : List Term) (ss : List Sent) (a b k l : ℕ) (p q : ℕ) (m n : SentNode) (left : sent_tree ts ss m ≡ sent_at ss p) (right : sent_tree ts ss n ≡ sent_at ss q) where

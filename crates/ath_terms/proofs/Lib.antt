@@ -7,20 +7,13 @@ pub mod ConnParts
 pub mod Measures
 pub mod VariableLaws
 pub mod FreshLaws
-pub mod WithinLaws
-pub mod StepLaws
 pub mod SortedLaws
-pub mod UnifierValid
-pub mod Planned
-pub mod ConstructionLaws
-pub mod EquationLaws
-pub mod TermLaws
 pub mod ListLaws
-pub mod ApplicationLaws
-pub mod SentLaws
-pub mod SentWithin
-pub mod GroupLaws
 pub mod KeptLaws
-pub mod KeepingLaws
-pub mod ConnectiveLaws
+pub mod MarkLaws
+pub mod StoreMarks
+pub mod SortVarLaws
+pub mod ApartLaws
+pub mod FirstLaws
+pub mod KeyLaws
 mod Rows

@@ -4,6 +4,9 @@ use Rattle.ath_sorts.specs.declared.sorts.Sort.{Sort}
 use Rattle.ath_sorts.specs.Signature.{boolean}
 use Rattle.ath_terms.specs.declared.store.KeptTerm.{KeptTerm}
 use Rattle.ath_terms.specs.declared.store.KeptSent.{KeptSent}
+use Rattle.ath_terms.specs.declared.marks.Marks.{Marks}
+use Rattle.ath_trees.specs.declared.limits.TheConstants.{MOST_TERM_NODES, MOST_TERM_LEVELS}
+use Rattle.ath_terms.specs.Whole.{nodes_of, sorts_of, extents_of, sent_nodes_of, sent_extents_of, whole_view, IsWell, IsWhole}
 use Rattle.ath_terms.specs.Kept.{Extent, IsTermKept, IsSentKept, AreEach, AreKept}
 use Rattle.ath_terms.specs.declared.node.TermNode.{TermNode}
 use Rattle.ath_terms.specs.declared.node.SentNode.{SentNode}
@@ -22,9 +25,6 @@ record Pair : Type 0 where
 
 abbrev view_of : List TermNode → List SentNode → Pair
 view_of ns ms = record { terms = term_trees ns; sents = sent_trees (term_trees ns) ms }
-
-abbrev pub IsWell : List TermNode → List SentNode → Type 0
-IsWell ns ms = IsOrdered IsTermBelow 0 ns × IsOrdered (IsSentBelow (length ns)) 0 ms
 
 -- ---- sentences under more terms
 below-more : (m n k : ℕ) (s : SentNode) → m ≤ n → IsSentBelow m k s → IsSentBelow n k s
@@ -93,30 +93,15 @@ pub sent-below : (m : ℕ) (ms : List SentNode) (k : ℕ) (d : SentNode) → IsO
 sent-below m ms k d o h = let e : 0 + k ≡ k = omega arith in rw e at (ordered-at (IsSentBelow m) 0 ms k d o h)
 
 -- ---- over what the view is
-abbrev pub nodes_of : List KeptTerm → List TermNode
-nodes_of es = map (λ e. e.node) es
-
-abbrev pub sorts_of : List KeptTerm → List Sort
-sorts_of es = map (λ e. e.sort) es
-
-abbrev pub extents_of : List KeptTerm → List Extent
-extents_of es = map (λ e. record { nodes = e.nodes; levels = e.levels }) es
-
-abbrev pub sent_nodes_of : List KeptSent → List SentNode
-sent_nodes_of ms = map (λ e. e.node) ms
-
-abbrev pub sent_extents_of : List KeptSent → List Extent
-sent_extents_of ms = map (λ e. record { nodes = e.nodes; levels = e.levels }) ms
-
-map-push : {A B : Type 0} (f : A → B) (xs : List A) (x : A) → map f (xs ++ x ∷ []) ≡ map f xs ++ f x ∷ []
+pub map-push : {A B : Type 0} (f : A → B) (xs : List A) (x : A) → map f (xs ++ x ∷ []) ≡ map f xs ++ f x ∷ []
 map-push f [] x = refl
 map-push f (y ∷ xs) x = ap (λ l. f y ∷ l) (map-push f xs x)
 
-map-count : {A B : Type 0} (f : A → B) (xs : List A) → length (map f xs) ≡ length xs
+pub map-count : {A B : Type 0} (f : A → B) (xs : List A) → length (map f xs) ≡ length xs
 map-count f [] = refl
 map-count f (x ∷ xs) = let e = map-count f xs in omega arith
 
-map-get : {A B : Type 0} (f : A → B) (xs : List A) (k : ℕ) (d : A) (b : B) → k < length xs → get_or (map f xs) k b ≡ f (get_or xs k d)
+pub map-get : {A B : Type 0} (f : A → B) (xs : List A) (k : ℕ) (d : A) (b : B) → k < length xs → get_or (map f xs) k b ≡ f (get_or xs k d)
 map-get f [] k d b h = absurd (omega arith)
 map-get f (x ∷ xs) zero d b h = refl
 map-get f (x ∷ xs) (suc k) d b h = map-get f xs k d b (omega arith)
@@ -133,12 +118,6 @@ each-at P (x ∷ xs) (y ∷ ys) zero a b h l = h.0
 each-at P (x ∷ xs) (y ∷ ys) (suc k) a b h l = each-at P xs ys k a b h.1 (omega arith)
 each-at P (x ∷ xs) [] k a b h l = absurd h
 
-abbrev pub whole_view : List KeptTerm → List KeptSent → Trees
-whole_view es ms = record { terms = term_trees (nodes_of es); sorts = sorts_of es; sents = sent_trees (term_trees (nodes_of es)) (sent_nodes_of ms) }
-
-abbrev pub IsWhole : List KeptTerm → List KeptSent → Type 0
-IsWhole es ms = IsWell (nodes_of es) (sent_nodes_of ms) × AreKept (term_trees (nodes_of es)) (extents_of es) (sent_trees (term_trees (nodes_of es)) (sent_nodes_of ms)) (sent_extents_of ms)
-
 module _ (es : List KeptTerm) (ms : List KeptSent) (v : Trees) (is : whole_view es ms ≡ v) (w : IsWhole es ms) where
   kept_terms : AreEach IsTermKept v.terms (extents_of es)
   kept_terms = subst (λ (t : Trees). AreEach IsTermKept t.terms (extents_of es)) is w.1.terms
@@ -146,21 +125,21 @@ module _ (es : List KeptTerm) (ms : List KeptSent) (v : Trees) (is : whole_view 
   kept_sents : AreEach IsSentKept v.sents (sent_extents_of ms)
   kept_sents = subst (λ (t : Trees). AreEach IsSentKept t.sents (sent_extents_of ms)) is w.1.sents
 
-  module _ (n : TermNode) (r : Sort) (a b : ℕ) (items : List KeptTerm) (e : items ≡ es ++ record { node = n; sort = r; nodes = a; levels = b } ∷ []) where
+  module _ (n : TermNode) (r : Sort) (a b : ℕ) (k : Marks) (items : List KeptTerm) (e : items ≡ es ++ record { node = n; sort = r; nodes = a; levels = b; marks = k } ∷ []) where
     pub then-add_term : whole_view items ms ≡ record { terms = v.terms ++ term_tree v.terms n ∷ []; sorts = v.sorts ++ r ∷ []; sents = v.sents }
     then-add_term =
-        let x = map-push (λ (e : KeptTerm). e.node) es (record { node = n; sort = r; nodes = a; levels = b }) in
-        let y = map-push (λ (e : KeptTerm). e.sort) es (record { node = n; sort = r; nodes = a; levels = b }) in
+        let x = map-push (λ (e : KeptTerm). e.node) es (record { node = n; sort = r; nodes = a; levels = b; marks = k }) in
+        let y = map-push (λ (e : KeptTerm). e.sort) es (record { node = n; sort = r; nodes = a; levels = b; marks = k }) in
         let q = view-add_term (nodes_of es) (sent_nodes_of ms) n w.0 in
         rw (e, ← is, x, y) (λ i. record { terms = (q i).terms; sorts = sorts_of es ++ r ∷ []; sents = (q i).sents })
 
     well-then-term : IsTermBelow (length v.terms) n → IsWell (nodes_of items) (sent_nodes_of ms)
-    well-then-term below = rw (e, map-push (λ (e : KeptTerm). e.node) es (record { node = n; sort = r; nodes = a; levels = b })) (well-add_term (nodes_of es) (sent_nodes_of ms) n w.0 (rw (← is) at below))
+    well-then-term below = rw (e, map-push (λ (e : KeptTerm). e.node) es (record { node = n; sort = r; nodes = a; levels = b; marks = k })) (well-add_term (nodes_of es) (sent_nodes_of ms) n w.0 (rw (← is) at below))
 
     pub whole-then-term : IsTermBelow (length v.terms) n → IsTermKept (term_tree v.terms n) (record { nodes = a; levels = b }) → IsWhole items ms
     whole-then-term below kept =
         let q = sym then-add_term in
-        let x = ap extents_of e ∙ map-push (λ (e : KeptTerm). record { nodes = e.nodes; levels = e.levels }) es (record { node = n; sort = r; nodes = a; levels = b }) in
+        let x = ap extents_of e ∙ map-push (λ (e : KeptTerm). record { nodes = e.nodes; levels = e.levels }) es (record { node = n; sort = r; nodes = a; levels = b; marks = k }) in
         let p = each-push IsTermKept v.terms (extents_of es) (term_tree v.terms n) (record { nodes = a; levels = b }) kept_terms kept in
         let p' = subst (AreEach IsTermKept (v.terms ++ term_tree v.terms n ∷ [])) (sym x) p in (
           well-then-term below,
@@ -170,20 +149,20 @@ module _ (es : List KeptTerm) (ms : List KeptSent) (v : Trees) (is : whole_view 
           },
         )
 
-  module _ (n : SentNode) (a b : ℕ) (items : List KeptSent) (e : items ≡ ms ++ record { node = n; nodes = a; levels = b } ∷ []) where
+  module _ (n : SentNode) (a b : ℕ) (k : Marks) (items : List KeptSent) (e : items ≡ ms ++ record { node = n; nodes = a; levels = b; marks = k } ∷ []) where
     pub then-add_sent : whole_view es items ≡ record { terms = v.terms; sorts = v.sorts; sents = v.sents ++ sent_tree v.terms v.sents n ∷ [] }
     then-add_sent =
-        let x = map-push (λ (e : KeptSent). e.node) ms (record { node = n; nodes = a; levels = b }) in
+        let x = map-push (λ (e : KeptSent). e.node) ms (record { node = n; nodes = a; levels = b; marks = k }) in
         let q = view-add_sent (nodes_of es) (sent_nodes_of ms) n in
         rw (e, ← is, x) (λ i. record { terms = term_trees (nodes_of es); sorts = sorts_of es; sents = (q i).sents })
 
     well-then-sent : IsSentBelow (length v.terms) (length v.sents) n → IsWell (nodes_of es) (sent_nodes_of items)
-    well-then-sent below = rw (e, map-push (λ (e : KeptSent). e.node) ms (record { node = n; nodes = a; levels = b })) (well-add_sent (nodes_of es) (sent_nodes_of ms) n w.0 (rw (← is) at below))
+    well-then-sent below = rw (e, map-push (λ (e : KeptSent). e.node) ms (record { node = n; nodes = a; levels = b; marks = k })) (well-add_sent (nodes_of es) (sent_nodes_of ms) n w.0 (rw (← is) at below))
 
     pub whole-then-sent : IsSentBelow (length v.terms) (length v.sents) n → IsSentKept (sent_tree v.terms v.sents n) (record { nodes = a; levels = b }) → IsWhole es items
     whole-then-sent below kept =
         let q = sym then-add_sent in
-        let x = ap sent_extents_of e ∙ map-push (λ (e : KeptSent). record { nodes = e.nodes; levels = e.levels }) ms (record { node = n; nodes = a; levels = b }) in
+        let x = ap sent_extents_of e ∙ map-push (λ (e : KeptSent). record { nodes = e.nodes; levels = e.levels }) ms (record { node = n; nodes = a; levels = b; marks = k }) in
         let p = each-push IsSentKept v.sents (sent_extents_of ms) (sent_tree v.terms v.sents n) (record { nodes = a; levels = b }) kept_sents kept in
         let p' = subst (AreEach IsSentKept (v.sents ++ sent_tree v.terms v.sents n ∷ [])) (sym x) p in (
           well-then-sent below,
@@ -253,3 +232,16 @@ module _ (es : List KeptTerm) (ms : List KeptSent) (v : Trees) (is : whole_view 
       let e = sents-count in
       let g = map-get {B = Extent} (λ (e : KeptSent). record { nodes = e.nodes; levels = e.levels }) ms k d (record { nodes = d.nodes; levels = d.levels }) (omega arith) in
       rw g at (each-at IsSentKept v.sents (sent_extents_of ms) k (atom blank) (record { nodes = d.nodes; levels = d.levels }) kept_sents h)
+
+  -- each is within the limits
+  pub term-nodes-few : (k : ℕ) (d : KeptTerm) → k < length v.terms → (get_or es k d).nodes ≤ MOST_TERM_NODES
+  term-nodes-few k d h = let q = term-kept k d h in let s = q.small.nodes in let e = q.nodes in omega arith
+
+  pub term-levels-few : (k : ℕ) (d : KeptTerm) → k < length v.terms → (get_or es k d).levels ≤ MOST_TERM_LEVELS
+  term-levels-few k d h = let q = term-kept k d h in let s = q.small.levels in let e = q.levels in omega arith
+
+  pub sent-nodes-few : (k : ℕ) (d : KeptSent) → k < length v.sents → (get_or ms k d).nodes ≤ MOST_TERM_NODES
+  sent-nodes-few k d h = let q = sent-kept k d h in let s = q.small.nodes in let e = q.nodes in omega arith
+
+  pub sent-levels-few : (k : ℕ) (d : KeptSent) → k < length v.sents → (get_or ms k d).levels ≤ MOST_TERM_LEVELS
+  sent-levels-few k d h = let q = sent-kept k d h in let s = q.small.levels in let e = q.levels in omega arith

@@ -1,6 +1,6 @@
--- Variables that are found in order, and the pairs of namesakes.
+-- Variables that are found in order.
 use Rattle.std.proofs.Common.{◌≡◌, ℕ, zero, suc, ◌+◌, ◌<◌, ◌≤◌, ◌↔◌, Bool, true, false, cond, not, List, [], ◌∷◌, ◌++◌, length, map, take, get_or, refl, sym, ◌∙◌, ap, arith}
-use Rattle.std.specs.Prelude.{filter, find}
+use Rattle.std.specs.Prelude.{filter}
 use Rattle.std.proofs.lemmas.List.{take_all}
 use Rattle.ath_sorts.specs.declared.sorts.Sort.{Sort}
 use Rattle.ath_sorts.specs.Order.{same_sort}
@@ -17,8 +17,7 @@ use Rattle.ath_sorts.specs.declared.sorts.Sym.{Sym}
 use Rattle.ath_trees.specs.Tree.{Term, listed, Sent}
 use Rattle.ath_terms.specs.Trees.{term_at, sent_at}
 use Rattle.ath_terms.specs.Nodes.{term_tree, sent_tree, IsSentBelow}
-use Rattle.ath_trees.specs.Variables.{is_namesake, same_var, with_var, with_vars, with_term, with_terms, with_sent, with_sents}
-use Rattle.ath_terms.specs.Construction.{pair_after, pairs_from, variable_pairs}
+use Rattle.ath_trees.specs.Variables.{same_var, with_var, with_vars, with_term, with_terms, with_sent, with_sents}
 use Rattle.ath_terms.proofs.ConnParts.{vars_of_conn}
 
 pub tells_same : (b : Bool) (s t : Sort) → (b ≡ true) ↔ (s ≡ t) → b ≡ same_sort s t
@@ -42,7 +41,7 @@ vars-push : (found : List Var) (vs : List Var) (v : Var) → with_vars found (vs
 vars-push found [] v = refl
 vars-push found (w ∷ vs) v = vars-push (with_var found w) vs v
 
-map-push : {A B : Type 0} (f : A → B) (xs : List A) (x : A) → map f (xs ++ x ∷ []) ≡ map f xs ++ f x ∷ []
+pub map-push : {A B : Type 0} (f : A → B) (xs : List A) (x : A) → map f (xs ++ x ∷ []) ≡ map f xs ++ f x ∷ []
 map-push f [] x = refl
 map-push f (y ∷ xs) x = ap (λ l. f y ∷ l) (map-push f xs x)
 
@@ -54,7 +53,7 @@ filter-push p (y ∷ xs) x = by (p y) (filter-push p xs x)
     by true e = ap (λ l. y ∷ l) e
     by false e = e
 
-next : {A : Type 0} (xs : List A) (i : ℕ) (d : A) → i < length xs → take (i + 1) xs ≡ take i xs ++ get_or xs i d ∷ []
+pub next : {A : Type 0} (xs : List A) (i : ℕ) (d : A) → i < length xs → take (i + 1) xs ≡ take i xs ++ get_or xs i d ∷ []
 next [] i d h = absurd (omega arith)
 next (x ∷ xs) zero d h = refl
 next (x ∷ xs) (suc i) d h = let s : suc i + 1 ≡ suc (i + 1) = omega arith in rw s (ap (λ l. x ∷ l) (next xs i d (omega arith)))
@@ -114,31 +113,3 @@ module _ (old xs : List Var) (v : Var) where
 
   pub others-all : (i : ℕ) (found : List Var) → length xs ≤ i → found ≡ others_to i → found ≡ with_vars old (filter (λ w. not (same_var v w)) xs)
   others-all i found h e = e ∙ ap (λ (l : List Var). with_vars old (filter (λ w. not (same_var v w)) l)) (take_all i xs h)
-
--- the pairs of one variable more
-append-assoc : {A : Type 0} (xs ys zs : List A) → (xs ++ ys) ++ zs ≡ xs ++ (ys ++ zs)
-append-assoc [] ys zs = refl
-append-assoc (x ∷ xs) ys zs = ap (λ l. x ∷ l) (append-assoc xs ys zs)
-
-append-nil : {A : Type 0} (xs : List A) → xs ++ [] ≡ xs
-append-nil [] = refl
-append-nil (x ∷ xs) = ap (λ l. x ∷ l) (append-nil xs)
-
-pairs-push : (before vs : List Var) (v : Var) → pairs_from before (vs ++ v ∷ []) ≡ pairs_from before vs ++ pair_after (find (is_namesake v) (before ++ vs)) v
-pairs-push before [] v = append-nil (pair_after (find (is_namesake v) before) v) ∙ ap (λ (l : List Var). pair_after (find (is_namesake v) l) v) (sym (append-nil before))
-pairs-push before (w ∷ vs) v =
-    ap (λ l. pair_after (find (is_namesake w) before) w ++ l) (pairs-push (before ++ w ∷ []) vs v ∙ ap (λ (l : List Var). pairs_from (before ++ w ∷ []) vs ++ pair_after (find (is_namesake v) l) v) (append-assoc before (w ∷ []) vs))
-    ∙ sym (append-assoc (pair_after (find (is_namesake w) before) w) (pairs_from (before ++ w ∷ []) vs) (pair_after (find (is_namesake v) (before ++ w ∷ vs)) v))
-
-module _ (old : List (Sort × Sort)) (xs : List Var) where
-  abbrev pub pairs_to : ℕ → List (Sort × Sort)
-  pairs_to i = old ++ variable_pairs (take i xs)
-
-  pub pairs-next : (i : ℕ) (d : Var) (pairs more : List (Sort × Sort)) → i < length xs → pairs ≡ pairs_to i → more ≡ pairs ++ pair_after (find (is_namesake (get_or xs i d)) (take i xs)) (get_or xs i d) → more ≡ pairs_to (i + 1)
-  pairs-next i d pairs more h e f =
-      f ∙ ap (λ (l : List (Sort × Sort)). l ++ pair_after (find (is_namesake (get_or xs i d)) (take i xs)) (get_or xs i d)) e
-      ∙ append-assoc old (variable_pairs (take i xs)) (pair_after (find (is_namesake (get_or xs i d)) (take i xs)) (get_or xs i d))
-      ∙ ap (λ l. old ++ l) (sym (pairs-push [] (take i xs) (get_or xs i d)) ∙ ap variable_pairs (sym (next xs i d h)))
-
-  pub pairs-all : (i : ℕ) (pairs : List (Sort × Sort)) → length xs ≤ i → pairs ≡ pairs_to i → pairs ≡ old ++ variable_pairs xs
-  pairs-all i pairs h e = e ∙ ap (λ (l : List Var). old ++ variable_pairs l) (take_all i xs h)

@@ -1,12 +1,8 @@
--- What a store keeps with each node: how many nodes its tree has, and how deep it is. Every tree is within the limits, and no
--- sentence has a quantifier until quantifiers are built.
-use Rattle.std.specs.Prelude.{◌≡◌, ℕ, ◌+◌, ◌≤◌, true, List, [], ◌∷◌}
+-- What a store keeps with each node: how many nodes its tree has, and how deep it is. Every tree is within the limits.
+use Rattle.std.specs.Prelude.{◌≡◌, ℕ, ◌+◌, ◌≤◌, List, [], ◌∷◌}
 use Rattle.ath_trees.specs.declared.limits.TheConstants.{MOST_TERM_NODES, MOST_TERM_LEVELS}
 use Rattle.ath_trees.specs.Measure.{term_size, terms_size, term_depth, terms_depth, sent_size, sent_depth, IsSmall}
 use Rattle.ath_trees.specs.Tree.{Term, Terms, Sent, atom}
-use Rattle.ath_trees.specs.Under.{has_no_binder}
-use Rattle.ath_terms.specs.declared.node.SentNode.{SentNode}
-use Rattle.ath_terms.specs.declared.node.SentNode.TheVariants as node
 
 pub record Extent : Type 0 where
   pub nodes : ℕ
@@ -21,7 +17,6 @@ pub record IsSentKept (p : Sent) (e : Extent) : Type 0 where
   pub nodes : e.nodes ≡ sent_size p
   pub levels : e.levels ≡ sent_depth p
   pub small : IsSmall p
-  pub free : has_no_binder p ≡ true
 
 -- an application to these arguments is within the limits
 pub record IsListed (ts : Terms) : Type 0 where
@@ -39,10 +34,3 @@ AreEach P (a ∷ as') [] = ⊥
 pub record AreKept (ts : List Term) (es : List Extent) (ps : List Sent) (fs : List Extent) : Type 0 where
   pub terms : AreEach IsTermKept ts es
   pub sents : AreEach IsSentKept ps fs
-
--- a node that is no quantifier
-abbrev pub IsFree : SentNode → Type 0
-IsFree (node.Atom t) = Unit {0}
-IsFree (node.Eq s t) = Unit {0}
-IsFree (node.Conn c ids) = Unit {0}
-IsFree (node.Quant q v p) = ⊥

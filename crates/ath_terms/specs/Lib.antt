@@ -5,10 +5,13 @@ pub mod Nodes
 pub mod Built
 pub mod Lists
 pub mod SortsIn
-pub mod Under
 pub mod Fresh
-pub mod Construction
-pub mod Answers
-pub mod Steps
 pub mod Kept
 pub mod Plain
+pub mod Limits
+pub mod Digest
+pub mod Firsts
+pub mod Found
+pub mod Marks
+pub mod SortVars
+pub mod Whole

@@ -61,7 +61,7 @@ fn are_same_sents(some: &[SentId], others: &[SentId]) -> bool
 }
 
 /// Whether two nodes are one, with parts of the same numbers.
-pub(crate) fn is_same_term_node(some: &TermNode, other: &TermNode) -> bool
+pub fn is_same_term_node(some: &TermNode, other: &TermNode) -> bool
     ensures { IsTrue result → some.now ≡ other.now }
 {
     match some {
@@ -84,8 +84,8 @@ pub(crate) fn is_same_term_node(some: &TermNode, other: &TermNode) -> bool
     }
 }
 
-/// Whether two nodes are one, with parts of the same numbers. A quantifier is told as another.
-pub(crate) fn is_same_sent_node(some: &SentNode, other: &SentNode) -> bool
+/// Whether two nodes are one, with parts of the same numbers.
+pub fn is_same_sent_node(some: &SentNode, other: &SentNode) -> bool
     ensures { IsTrue result → some.now ≡ other.now }
 {
     match some {
@@ -112,7 +112,20 @@ pub(crate) fn is_same_sent_node(some: &SentNode, other: &SentNode) -> bool
             }
             SentNode::Quant(_, _, _) => false,
         },
-        SentNode::Quant(_, _, _) => false,
+        SentNode::Quant(k, v, body) => match other {
+            SentNode::Atom(_) => false,
+            SentNode::Eq(_, _) => false,
+            SentNode::Conn(_, _) => false,
+            SentNode::Quant(l, w, inner) => {
+                if *k != *l {
+                    return false;
+                }
+                if body.0 != inner.0 {
+                    return false;
+                }
+                is_same_var(v, w)
+            }
+        },
     }
 }
 

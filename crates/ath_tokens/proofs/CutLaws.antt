@@ -1,9 +1,11 @@
 -- The laws of the cut.
-use Rattle.std.proofs.Common.{◌≡◌, ℕ, zero, suc, ◌+◌, ◌-◌, ◌<◌, ◌≤◌, Bool, true, false, List, [], ◌∷◌, length, take, drop, Option, Some, None, refl, sym, ap, subst, ◌∙◌, arith, nat_lt, not, ◌||◌, ◌==◌}
-use Rattle.std.proofs.lemmas.Bool.{ltb-false}
-use Rattle.std.proofs.lemmas.List.{length-drop}
+use Rattle.std.proofs.Common.{◌≡◌, ℕ, zero, suc, ◌+◌, ◌-◌, ◌<◌, ◌≤◌, Bool, true, false, List, [], ◌∷◌, length, take, drop, Option, Some, None, refl, sym, ap, subst, ◌∙◌, ⊎_elim, cond, arith, nat_lt, not, ◌||◌, ◌==◌}
+use Rattle.std.proofs.lemmas.Bool.{ltb-false, cases_lt}
+use Rattle.std.proofs.lemmas.List.{length-drop, at_drop_all}
+use Rattle.std.proofs.lemmas.Str.{IsUtf8-nil, is_utf8-from_IsUtf8}
 use Rattle.std.specs.Str.{is_utf8}
 use Rattle.std.specs.Str.Lossy.{utf8_valid_len}
+use Rattle.ath_names.specs.declared.limits.TheConstants.{MOST_NAME_BYTES}
 use Rattle.ath_tokens.specs.declared.tokens.LexKind.TheVariants.{BadUtf8, NameTooLong}
 use Rattle.ath_tokens.specs.Bytes.{is_blank, is_line_end}
 use Rattle.ath_tokens.specs.Spelling.{Lexeme, spells}
@@ -52,7 +54,7 @@ record IsAt (at : ℕ) (rest : List ℕ) (l : Lexeme) (s e : ℕ) : Type 0 where
   within : e ≤ at + length rest
   spelled : spells (take (e - s) rest) ≡ Some l
   longer : (n : ℕ) → e - s < n → n ≤ length rest → spells (take n rest) ≡ None
-  short : name_len l ≤ 200
+  short : name_len l ≤ MOST_NAME_BYTES
 
 found-at : (at : ℕ) (rest : List ℕ) (l : Lexeme) (s e : ℕ) → cut_at at rest ≡ found l s e → IsAt at rest l s e
 unfolding answer start_of end_of token_in
@@ -61,12 +63,12 @@ found-at at (b ∷ bs) l s e f = by (longest (length (b ∷ bs)) (b ∷ bs)) ref
   where
     by : (o : Option (ℕ × Lexeme)) → longest (length (b ∷ bs)) (b ∷ bs) ≡ o → answer at (b ∷ bs) (longest (length (b ∷ bs)) (b ∷ bs)) ≡ found l s e → IsAt at (b ∷ bs) l s e
     by None o h = let clash : fault (fault_of (b ∷ bs)).0 (at + (fault_of (b ∷ bs)).1) ≡ found l s e = sym (ap (answer at (b ∷ bs)) o) ∙ h in cc
-    by (Some t) o h = on (nat_lt 200 (name_len t.1)) refl
+    by (Some t) o h = on (nat_lt MOST_NAME_BYTES (name_len t.1)) refl
       where
-        on : (long : Bool) → nat_lt 200 (name_len t.1) ≡ long → IsAt at (b ∷ bs) l s e
-        on true g = let clash : fault NameTooLong at ≡ found l s e = sym (ap (answer at (b ∷ bs)) o ∙ if-true (nat_lt 200 (name_len t.1)) _ _ g) ∙ h in cc
+        on : (long : Bool) → nat_lt MOST_NAME_BYTES (name_len t.1) ≡ long → IsAt at (b ∷ bs) l s e
+        on true g = let clash : fault NameTooLong at ≡ found l s e = sym (ap (answer at (b ∷ bs)) o ∙ if-true (nat_lt MOST_NAME_BYTES (name_len t.1)) _ _ g) ∙ h in cc
         on false g =
-            let here : found t.1 at (at + t.0) ≡ found l s e = sym (ap (answer at (b ∷ bs)) o ∙ if-false (nat_lt 200 (name_len t.1)) _ _ g) ∙ h in
+            let here : found t.1 at (at + t.0) ≡ found l s e = sym (ap (answer at (b ∷ bs)) o ∙ if-false (nat_lt MOST_NAME_BYTES (name_len t.1)) _ _ g) ∙ h in
             let start : at ≡ s = ap start_of here in
             let end : at + t.0 ≡ e = ap end_of here in
             let token : t.1 ≡ l = ap (token_in l) here in
@@ -78,7 +80,7 @@ found-at at (b ∷ bs) l s e f = by (longest (length (b ∷ bs)) (b ∷ bs)) ref
               within = omega (arith, w.1);
               spelled = ap (λ k. spells (take k (b ∷ bs))) len ∙ w.2 ∙ ap Some token;
               longer = λ n a c. w.3 n (omega (arith, len)) c;
-              short = subst (λ x. name_len x ≤ 200) token (ltb-false 200 (name_len t.1) g);
+              short = subst (λ x. name_len x ≤ MOST_NAME_BYTES) token (ltb-false MOST_NAME_BYTES (name_len t.1) g);
             }
 
 ended-at : (at : ℕ) (rest : List ℕ) → 0 < length rest → cut_at at rest ≡ ended → ⊥
@@ -87,11 +89,11 @@ ended-at at rest some f = by (longest (length rest) rest) refl (sym (cut-is rest
   where
     by : (o : Option (ℕ × Lexeme)) → longest (length rest) rest ≡ o → answer at rest (longest (length rest) rest) ≡ ended → ⊥
     by None o h = let clash : fault (fault_of rest).0 (at + (fault_of rest).1) ≡ ended = sym (ap (answer at rest) o) ∙ h in cc
-    by (Some t) o h = on (nat_lt 200 (name_len t.1)) refl
+    by (Some t) o h = on (nat_lt MOST_NAME_BYTES (name_len t.1)) refl
       where
-        on : (long : Bool) → nat_lt 200 (name_len t.1) ≡ long → ⊥
-        on true g = let clash : fault NameTooLong at ≡ ended = sym (ap (answer at rest) o ∙ if-true (nat_lt 200 (name_len t.1)) _ _ g) ∙ h in cc
-        on false g = let clash : found t.1 at (at + t.0) ≡ ended = sym (ap (answer at rest) o ∙ if-false (nat_lt 200 (name_len t.1)) _ _ g) ∙ h in cc
+        on : (long : Bool) → nat_lt MOST_NAME_BYTES (name_len t.1) ≡ long → ⊥
+        on true g = let clash : fault NameTooLong at ≡ ended = sym (ap (answer at rest) o ∙ if-true (nat_lt MOST_NAME_BYTES (name_len t.1)) _ _ g) ∙ h in cc
+        on false g = let clash : found t.1 at (at + t.0) ≡ ended = sym (ap (answer at rest) o ∙ if-false (nat_lt MOST_NAME_BYTES (name_len t.1)) _ _ g) ∙ h in cc
 
 module _ (text : List ℕ) (from : ℕ) (within : from ≤ length text) where
   abbrev rest : List ℕ
@@ -135,3 +137,16 @@ found_is_longest text from token start end within e = found_at_start text from w
 
 pub ended_is_end : EndedIsEnd
 ended_is_end text from within e = ended_at_end text from within e
+
+-- a token that is found stands in the text
+pub found_within : (text : List ℕ) (from : ℕ) (l : Lexeme) (s e : ℕ) → next_of text from ≡ found l s e → from ≤ length text
+found_within text from l s e f = ⊎_elim (λ past. absurd (clash (sym (at_end past) ∙ f))) (λ within. within) (cases_lt (length text) from)
+  where
+    cut : List ℕ → Cut
+    cut rest = let gap = gap_len false rest in cond (is_utf8 (take gap rest)) (cut_at (from + gap) (drop gap rest)) (fault BadUtf8 (from + utf8_valid_len (take gap rest)))
+
+    at_end : length text < from → next_of text from ≡ ended
+    at_end past = at_drop_all cut text from (omega arith) ∙ ap (λ t. cond t ended (fault BadUtf8 (from + utf8_valid_len []))) (is_utf8-from_IsUtf8 [] IsUtf8-nil)
+
+    clash : ended ≡ found l s e → ⊥
+    clash h = cc

@@ -4,6 +4,7 @@ use Rattle.std.proofs.lemmas.List.{length-drop}
 use Rattle.std.proofs.lemmas.List.Sums.{prefix_len-le-length}
 use Rattle.std.specs.Char.{is_ascii_digit}
 use Rattle.std.specs.List.{list_all, prefix_len}
+use Rattle.ath_tokens.specs.declared.limits.TheConstants.{MOST_INDEX_DIGITS}
 use Rattle.ath_tokens.specs.Bytes.{is_word_char, begins_part, is_at_part, is_punct}
 use Rattle.ath_tokens.specs.Spelling.{word, var, sort_var, punct, becomes, is_part, goes_on_word, is_index, number, indexed, spells_var, spells_punct, spells}
 use Rattle.ath_tokens.specs.Cut.{longest}
@@ -46,8 +47,8 @@ indexed-none name (c ∷ ds) (suc j) e some le = if-false (c == 37 && is_index (
     by true f true g = ap (λ t. c == 37 && t) (index-zero ds j g) ∙ and-false (c == 37)
     by true f false g = ap (λ t. c == 37 && t) (no j le) ∙ and-false (c == 37)
       where
-        nothing : min 18 (prefix_len is_ascii_digit ds) ≡ 0
-        nothing = sym (if-true (c == 37 && not (is_at_zero ds)) (min 18 (prefix_len is_ascii_digit ds)) 0 (λ i. f i && not (g i))) ∙ e
+        nothing : min MOST_INDEX_DIGITS (prefix_len is_ascii_digit ds) ≡ 0
+        nothing = sym (if-true (c == 37 && not (is_at_zero ds)) (min MOST_INDEX_DIGITS (prefix_len is_ascii_digit ds)) 0 (λ i. f i && not (g i))) ∙ e
 
         no : (k : ℕ) → suc k ≤ length (c ∷ ds) → is_index (take k ds) ≡ false
         no zero h = refl
@@ -60,7 +61,7 @@ pub record HasIndex (r : List ℕ) : Type 0 where
   pub is : r ≡ first ∷ digits
   pub percent : (first == 37) ≡ true
   pub no_zero : is_at_zero digits ≡ false
-  pub count : index_digits r ≡ min 18 (prefix_len is_ascii_digit digits)
+  pub count : index_digits r ≡ min MOST_INDEX_DIGITS (prefix_len is_ascii_digit digits)
 
 pub has_index : (r : List ℕ) → 0 < index_digits r → HasIndex r
 has_index [] h = absurd (omega arith)
@@ -68,8 +69,8 @@ has_index (c ∷ ds) h = by (c == 37) refl (is_at_zero ds) refl
   where
     by : (t : Bool) → (c == 37) ≡ t → (z : Bool) → is_at_zero ds ≡ z → HasIndex (c ∷ ds)
     by true f false g = record { first = c; digits = ds; is = refl; percent = f; no_zero = g; count = if-true (c == 37 && not (is_at_zero ds)) _ _ (λ i. f i && not (g i)) }
-    by true f true g = absurd (omega (arith, if-false (c == 37 && not (is_at_zero ds)) (min 18 (prefix_len is_ascii_digit ds)) 0 (λ i. f i && not (g i))))
-    by false f z g = absurd (omega (arith, if-false (c == 37 && not (is_at_zero ds)) (min 18 (prefix_len is_ascii_digit ds)) 0 (ap (λ t. t && not (is_at_zero ds)) f)))
+    by true f true g = absurd (omega (arith, if-false (c == 37 && not (is_at_zero ds)) (min MOST_INDEX_DIGITS (prefix_len is_ascii_digit ds)) 0 (λ i. f i && not (g i))))
+    by false f z g = absurd (omega (arith, if-false (c == 37 && not (is_at_zero ds)) (min MOST_INDEX_DIGITS (prefix_len is_ascii_digit ds)) 0 (ap (λ t. t && not (is_at_zero ds)) f)))
 
 module _ (bs : List ℕ) (part : is_at_part bs ≡ true) where
   abbrev name_end : ℕ

@@ -1,5 +1,5 @@
 -- What the steps of reading a token find is the longest token, or the fault there.
-use Rattle.std.proofs.Common.{◌≡◌, ℕ, zero, suc, ◌+◌, ◌<◌, ◌≤◌, Bool, true, false, cond, ◌&&◌, ◌||◌, List, [], ◌∷◌, length, take, drop, slice_index, Some, None, refl, sym, ap, subst, ◌∙◌, true≢false, ⊎_elim, arith, ◌==◌, eqb-true}
+use Rattle.std.proofs.Common.{◌≡◌, ℕ, zero, suc, ◌+◌, ◌<◌, ◌≤◌, Bool, true, false, cond, ◌&&◌, List, [], ◌∷◌, length, take, drop, slice_index, Some, None, refl, sym, ap, subst, ◌∙◌, true≢false, ⊎_elim, arith, ◌==◌, eqb-true}
 use Rattle.std.proofs.lemmas.Bool.{cases_lt, and_parts}
 use Rattle.std.proofs.lemmas.Bool.Decides.{nat_tests}
 use Rattle.std.proofs.lemmas.List.{length-take, length-drop}
@@ -21,6 +21,7 @@ use Rattle.ath_tokens.specs.Scan.{word_more, index_digits, Faults, Lexes}
 use Rattle.ath_tokens.specs.Strings.{as_quoted, fault_lexed, string_lexed, fault_at, IsWithin}
 use Rattle.ath_tokens.proofs.Scans.{all-front, all-within, word-front, word_more-le}
 use Rattle.ath_tokens.proofs.FirstBytes.{longest-word, longest-sort_var, longest-no_sort_var, longest-var, longest-var_index, longest-no_var_part, longest-punct, longest-nothing, longest-becomes, HasIndex, has_index}
+use Rattle.ath_tokens.proofs.SpelledNames.{part_holds, word_holds, ascii-more}
 use Rattle.ath_tokens.proofs.Strings.{longest-str, longest-bad_str, longest-no_str}
 
 -- names are ASCII
@@ -31,21 +32,10 @@ word_char-ascii : (b : ℕ) → is_word_char b ≡ true → b < 128
 word_char-ascii b e = ⊎_elim (λ below. below) (λ above. absurd (true≢false (sym e ∙ not_word b above))) (cases_lt b 128)
 
 all-ascii : (bs : List ℕ) → list_all is_word_char bs ≡ true → IsAscii bs
-all-ascii [] e = IsAscii-nil
-all-ascii (b ∷ bs) e = let p = and_parts (is_word_char b) (list_all is_word_char bs) e in IsAscii-cons b bs (word_char-ascii b p.0) (all-ascii bs p.1)
-
-dot-ascii : (b : ℕ) (t : Bool) → (b == 46 && t) ≡ true → b < 128
-dot-ascii b t e = let same = eqb-true b 46 (and_parts (b == 46) t e).0 in omega arith
+all-ascii = part_holds IsAscii IsAscii-nil ascii-more
 
 word-ascii : (bs : List ℕ) → goes_on_word bs ≡ true → IsAscii bs
-word-ascii [] e = IsAscii-nil
-word-ascii (b ∷ bs) e =
-    let p = and_parts (is_word_char b || (b == 46 && is_at_part bs)) (goes_on_word bs) e in
-    IsAscii-cons b bs (by (is_word_char b) refl p.0) (word-ascii bs p.1)
-  where
-    by : (t : Bool) → is_word_char b ≡ t → (is_word_char b || (b == 46 && is_at_part bs)) ≡ true → b < 128
-    by true f h = word_char-ascii b f
-    by false f h = dot-ascii b (is_at_part bs) (sym (ap (λ t. t || (b == 46 && is_at_part bs)) f) ∙ h)
+word-ascii = word_holds IsAscii IsAscii-nil ascii-more
 
 -- where no token begins, the fault is the answer
 pub lexes-fault : (rest : List ℕ) (l : Lexed) → longest (length rest) rest ≡ None → Faults rest l → Lexes rest l
@@ -187,11 +177,11 @@ string-at bs (Closed n means) e within far = by (is_utf8 (take n bs)) refl far
     by : (t : Bool) → is_utf8 (take n bs) ≡ t → fault_at (string_lexed bs (Closed n means)) ≤ length bs → Lexes (34 ∷ bs) (string_lexed bs (Closed n means))
     by true u f =
         let next : n + 2 ≡ suc (suc n) = omega arith in
-        subst (λ t. Lexes (34 ∷ bs) (cond t (Str means (n + 2)) (fault_lexed (fault_in bs (closed n means))))) (sym u)
-        (longest-str bs n means e u ∙ (λ i. Some (sym next i, str means)), omega (arith, within))
+        subst (λ t. Lexes (34 ∷ bs) (cond t (Str means.items (n + 2)) (fault_lexed (fault_in bs (closed n means.items))))) (sym u)
+        (longest-str bs n means.items e u ∙ (λ i. Some (sym next i, str means.items)), omega (arith, within))
     by false u f =
-        subst (λ t. Lexes (34 ∷ bs) (cond t (Str means (n + 2)) (fault_lexed (fault_in bs (closed n means))))) (sym u)
-        (longest-bad_str bs n means e u, (omega (arith, utf8_valid_len_le (take n bs), length-take n bs, within), ap (fault_in bs) e))
+        subst (λ t. Lexes (34 ∷ bs) (cond t (Str means.items (n + 2)) (fault_lexed (fault_in bs (closed n means.items))))) (sym u)
+        (longest-bad_str bs n means.items e u, (omega (arith, utf8_valid_len_le (take n bs), length-take n bs, within), ap (fault_in bs) e))
 string-at bs (Wrong back at) e within far = (longest-no_str bs (λ n means c. let clash : wrong back at ≡ closed n means = sym e ∙ c in cc), (omega (arith, far), ap (fault_in bs) e))
 string-at bs Unclosed e within far = (longest-no_str bs (λ n means c. let clash : unclosed ≡ closed n means = sym e ∙ c in cc), (omega (arith, far), ap (fault_in bs) e))
 

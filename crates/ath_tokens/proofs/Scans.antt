@@ -5,6 +5,7 @@ use Rattle.std.proofs.lemmas.List.{length-take}
 use Rattle.std.proofs.lemmas.Bool.{and_parts, lt-ltb, le-ltb, cases_lt}
 use Rattle.std.specs.Char.{is_ascii_digit}
 use Rattle.std.specs.List.{list_all, prefix_len}
+use Rattle.ath_tokens.specs.declared.limits.TheConstants.{MOST_INDEX_DIGITS}
 use Rattle.ath_tokens.specs.Bytes.{is_word_char, begins_part, is_at_part}
 use Rattle.ath_tokens.specs.Spelling.{goes_on_word, is_index}
 use Rattle.ath_tokens.specs.Scan.{goes_on, word_more, is_at_zero}
@@ -141,30 +142,30 @@ word_more-le (b ∷ bs) = by (goes_on (b ∷ bs)) refl (word_more-le bs)
     by false e rest = omega (arith, more-false b bs e)
 
 -- the digits of an index
-pub index-front : (ds : List ℕ) (k : ℕ) → is_at_zero ds ≡ false → 0 < k → k ≤ 18 → k ≤ prefix_len is_ascii_digit ds → is_index (take k ds) ≡ true
+pub index-front : (ds : List ℕ) (k : ℕ) → is_at_zero ds ≡ false → 0 < k → k ≤ MOST_INDEX_DIGITS → k ≤ prefix_len is_ascii_digit ds → is_index (take k ds) ≡ true
 index-front [] k z some short h = absurd (omega arith)
 index-front (d ∷ ds) zero z some short h = absurd (omega arith)
 index-front (d ∷ ds) (suc k) z some short h =
     let digits = all-within is_ascii_digit (d ∷ ds) (suc k) h in
-    let len : length (take k ds) < 18 = omega (arith, length-take {A = ℕ}) in
-    λ i. not (z i) && digits i && lt-ltb (length (take k ds)) 18 len i
+    let len : length (take k ds) < MOST_INDEX_DIGITS = omega (arith, length-take {A = ℕ}) in
+    λ i. not (z i) && digits i && lt-ltb (length (take k ds)) MOST_INDEX_DIGITS len i
 
-pub index-longer : (ds : List ℕ) (j : ℕ) → min 18 (prefix_len is_ascii_digit ds) < j → j ≤ length ds → is_index (take j ds) ≡ false
+pub index-longer : (ds : List ℕ) (j : ℕ) → min MOST_INDEX_DIGITS (prefix_len is_ascii_digit ds) < j → j ≤ length ds → is_index (take j ds) ≡ false
 index-longer ds zero h le = absurd (omega arith)
 index-longer [] (suc j) h le = absurd (omega arith)
 index-longer (d ∷ ds) (suc j) h le = ⊎_elim
     (λ more.
     let digits = all-longer is_ascii_digit (d ∷ ds) (suc j) more le in
-    ap (λ t. not (d == 48) && t && nat_lt (length (take j ds)) 18) digits ∙ ap (λ t. t && nat_lt (length (take j ds)) 18) (and-false (not (d == 48))))
+    ap (λ t. not (d == 48) && t && nat_lt (length (take j ds)) MOST_INDEX_DIGITS) digits ∙ ap (λ t. t && nat_lt (length (take j ds)) MOST_INDEX_DIGITS) (and-false (not (d == 48))))
     (λ digits.
-    let len : 18 ≤ length (take j ds) = omega (arith, length-take {A = ℕ}) in
-    ap (λ t. not (d == 48) && list_all is_ascii_digit (take (suc j) (d ∷ ds)) && t) (le-ltb (length (take j ds)) 18 len) ∙ and-false (not (d == 48) && list_all is_ascii_digit (take (suc j) (d ∷ ds))))
+    let len : MOST_INDEX_DIGITS ≤ length (take j ds) = omega (arith, length-take {A = ℕ}) in
+    ap (λ t. not (d == 48) && list_all is_ascii_digit (take (suc j) (d ∷ ds)) && t) (le-ltb (length (take j ds)) MOST_INDEX_DIGITS len) ∙ and-false (not (d == 48) && list_all is_ascii_digit (take (suc j) (d ∷ ds))))
     (cases_lt (prefix_len is_ascii_digit (d ∷ ds)) (suc j))
 
 pub index-zero : (ds : List ℕ) (j : ℕ) → is_at_zero ds ≡ true → is_index (take j ds) ≡ false
 index-zero ds zero z = refl
 index-zero [] (suc j) z = refl
-index-zero (d ∷ ds) (suc j) z = ap (λ t. not t && list_all is_ascii_digit (take (suc j) (d ∷ ds)) && nat_lt (length (take j ds)) 18) z
+index-zero (d ∷ ds) (suc j) z = ap (λ t. not t && list_all is_ascii_digit (take (suc j) (d ∷ ds)) && nat_lt (length (take j ds)) MOST_INDEX_DIGITS) z
 
 -- a part has a word character at least
 pub part-some : (bs : List ℕ) → is_at_part bs ≡ true → 0 < prefix_len is_word_char bs

@@ -32,7 +32,7 @@ pub record WasClosed (more : List ℕ) (q : Quoted) (n : ℕ) (means : List ℕ)
   pub len : n ≡ 1 + before
   pub all : closed (1 + before) (more ++ rest) ≡ closed n means
 
-was_closed : (more : List ℕ) (q : Quoted) (n : ℕ) (means : List ℕ) → after 1 more q ≡ closed n means → WasClosed more q n means
+pub was_closed : (more : List ℕ) (q : Quoted) (n : ℕ) (means : List ℕ) → after 1 more q ≡ closed n means → WasClosed more q n means
 was_closed more (closed m rest) n means e = record { before = m; rest = rest; is = refl; len = (let l : 1 + m ≡ n = cc in sym l); all = e }
 was_closed more (wrong back m) n means e = cc
 was_closed more unclosed n means e = cc

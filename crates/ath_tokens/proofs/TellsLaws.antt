@@ -2,6 +2,7 @@
 use Rattle.std.proofs.Common.{◌≡◌, ℕ, ◌+◌, ◌<◌, ◌≤◌, List, [], ◌∷◌, length, take, drop, Option, Some, None, Ok, Err, refl, sym, ap, ◌∙◌, inl, inr, ⊎_elim, arith, nat_lt, if◌then◌else◌}
 use Rattle.std.proofs.lemmas.Bool.{lt-ltb, le-ltb}
 use Rattle.std.specs.Option.{option_map}
+use Rattle.ath_names.specs.declared.limits.TheConstants.{MOST_NAME_BYTES}
 use Rattle.ath_sorts.specs.declared.sorts.Sym.{Sym}
 use Rattle.ath_tokens.specs.declared.lexeme.Lexed.TheVariants.{Word, Var, SortVar, Str, Punct, Becomes, Fault}
 use Rattle.ath_tokens.specs.declared.tokens.LexKind.{LexKind}
@@ -13,7 +14,7 @@ use Rattle.ath_tokens.specs.Scan.{Lexes, Numbers, Tells}
 use Rattle.ath_tokens.proofs.FirstBytes.{if-true, if-false}
 
 unfoldable pub answer : ℕ → List ℕ → Option (ℕ × Lexeme) → Cut
-answer at rest o = elim o [ Some t ↦ if nat_lt 200 (name_len t.1) then fault NameTooLong at else found t.1 at (at + t.0) | None ↦ let f = fault_of rest in fault f.0 (at + f.1) ]
+answer at rest o = elim o [ Some t ↦ if nat_lt MOST_NAME_BYTES (name_len t.1) then fault NameTooLong at else found t.1 at (at + t.0) | None ↦ let f = fault_of rest in fault f.0 (at + f.1) ]
 
 pub cut-is : (rest : List ℕ) (at : ℕ) → 0 < length rest → cut_at at rest ≡ answer at rest (longest (length rest) rest)
 unfolding answer
@@ -21,13 +22,13 @@ cut-is [] at some = absurd (omega arith)
 cut-is (b ∷ bs) at some = refl
 
 module _ (rest : List ℕ) (some : 0 < length rest) where
-  pub cut-found : (n : ℕ) (l : Lexeme) → longest (length rest) rest ≡ Some (n, l) → name_len l ≤ 200 → (at : ℕ) → cut_at at rest ≡ found l at (at + n)
+  pub cut-found : (n : ℕ) (l : Lexeme) → longest (length rest) rest ≡ Some (n, l) → name_len l ≤ MOST_NAME_BYTES → (at : ℕ) → cut_at at rest ≡ found l at (at + n)
   unfolding answer
-  cut-found n l e short at = cut-is rest at some ∙ ap (answer at rest) e ∙ if-false (nat_lt 200 (name_len l)) _ _ (le-ltb 200 (name_len l) short)
+  cut-found n l e short at = cut-is rest at some ∙ ap (answer at rest) e ∙ if-false (nat_lt MOST_NAME_BYTES (name_len l)) _ _ (le-ltb MOST_NAME_BYTES (name_len l) short)
 
-  pub cut-long : (n : ℕ) (l : Lexeme) → longest (length rest) rest ≡ Some (n, l) → 200 < name_len l → (at : ℕ) → cut_at at rest ≡ fault NameTooLong (at + 0)
+  pub cut-long : (n : ℕ) (l : Lexeme) → longest (length rest) rest ≡ Some (n, l) → MOST_NAME_BYTES < name_len l → (at : ℕ) → cut_at at rest ≡ fault NameTooLong (at + 0)
   unfolding answer
-  cut-long n l e long at = let here : at ≡ at + 0 = omega arith in cut-is rest at some ∙ ap (answer at rest) e ∙ if-true (nat_lt 200 (name_len l)) _ _ (lt-ltb 200 (name_len l) long) ∙ ap (fault NameTooLong) here
+  cut-long n l e long at = let here : at ≡ at + 0 = omega arith in cut-is rest at some ∙ ap (answer at rest) e ∙ if-true (nat_lt MOST_NAME_BYTES (name_len l)) _ _ (lt-ltb MOST_NAME_BYTES (name_len l) long) ∙ ap (fault NameTooLong) here
 
   pub cut-fault : (kind : LexKind) (n : ℕ) → longest (length rest) rest ≡ None → fault_of rest ≡ (kind, n) → (at : ℕ) → cut_at at rest ≡ fault kind (at + n)
   unfolding answer

@@ -4,6 +4,7 @@ use Rattle.std.specs.List.{count_by, suffix_len}
 use Rattle.std.specs.Str.{is_utf8}
 use Rattle.std.specs.Str.Lossy.{utf8_valid_len}
 use Rattle.ath_syntax.specs.declared.place.Pos.{Pos}
+use Rattle.ath_names.specs.declared.limits.TheConstants.{MOST_NAME_BYTES}
 use Rattle.ath_names.specs.Names.{interned}
 use Rattle.ath_tokens.specs.declared.tokens.LexKind.{LexKind}
 use Rattle.ath_tokens.specs.declared.tokens.LexKind.TheVariants.{BadUtf8, BadChar, OpenString, NameTooLong}
@@ -65,7 +66,7 @@ pub data Cut : Type 0 where
 abbrev pub cut_at : ℕ → List ℕ → Cut
 cut_at at [] = ended
 cut_at at (b ∷ bs) = elim (longest (length (b ∷ bs)) (b ∷ bs)) [
-  | Some t ↦ if nat_lt 200 (name_len t.1) then fault NameTooLong at else found t.1 at (at + t.0)
+  | Some t ↦ if nat_lt MOST_NAME_BYTES (name_len t.1) then fault NameTooLong at else found t.1 at (at + t.0)
   | None ↦ let f = fault_of (b ∷ bs) in fault f.0 (at + f.1)
 ]
 

@@ -1,6 +1,7 @@
 -- What the laws of the cut say.
 use Rattle.std.specs.Prelude.{◌≡◌, ℕ, ◌+◌, ◌-◌, ◌<◌, ◌≤◌, false, true, List, length, take, drop, Some, None}
 use Rattle.std.specs.Str.{is_utf8}
+use Rattle.ath_names.specs.declared.limits.TheConstants.{MOST_NAME_BYTES}
 use Rattle.ath_tokens.specs.Spelling.{Lexeme, spells}
 use Rattle.ath_tokens.specs.Cut.{gap_len, name_len, found, ended, next_of}
 
@@ -17,7 +18,7 @@ pub record IsLongest (text : List ℕ) (from : ℕ) (token : Lexeme) (start end 
   pub spelled : spells (take (end - start) (drop start text)) ≡ Some token
   pub longest
       : (n : ℕ) → end - start < n → n ≤ length (drop start text) → spells (take n (drop start text)) ≡ None
-  pub short : name_len token ≤ 200
+  pub short : name_len token ≤ MOST_NAME_BYTES
 
 abbrev pub FoundIsLongest : Type 0
 FoundIsLongest =

@@ -5,7 +5,9 @@ use Rattle.std.specs.List.{prefix_len}
 use Rattle.std.specs.Str.{IsAscii, is_utf8}
 use Rattle.std.specs.Str.Lossy.{utf8_valid_len}
 use Rattle.ath_sorts.specs.declared.sorts.Sym.{Sym}
+use Rattle.ath_names.specs.declared.limits.TheConstants.{MOST_NAME_BYTES}
 use Rattle.ath_names.specs.Names.{number_of, interned}
+use Rattle.ath_tokens.specs.declared.limits.TheConstants.{MOST_INDEX_DIGITS}
 use Rattle.ath_tokens.specs.declared.lexeme.Lexed.{Lexed}
 use Rattle.ath_tokens.specs.declared.lexeme.Lexed.TheVariants.{Word, Var, SortVar, Str, Punct, Becomes, Fault}
 use Rattle.ath_tokens.specs.declared.tokens.LexKind.{LexKind}
@@ -43,7 +45,7 @@ is_at_zero (b ∷ bs) = b == 48
 -- how many digits of an index stand after a `%` at the front
 abbrev pub index_digits : List ℕ → ℕ
 index_digits [] = 0
-index_digits (c ∷ ds) = if c == 37 && not (is_at_zero ds) then min 18 (prefix_len is_ascii_digit ds) else 0
+index_digits (c ∷ ds) = if c == 37 && not (is_at_zero ds) then min MOST_INDEX_DIGITS (prefix_len is_ascii_digit ds) else 0
 
 abbrev pub Faults : List ℕ → Lexed → Type 0
 Faults rest (Fault kind at) = (at < length rest) × (fault_of rest ≡ (kind, at))
@@ -61,8 +63,8 @@ Lexes rest (Fault kind at) = (longest (length rest) rest ≡ None) × Faults res
 
 -- the number of a name, which joins the names, or why it gets none
 abbrev pub Numbers : List (List ℕ) → List ℕ → Result Sym (LexKind × ℕ) → List (List ℕ) → Type 0
-Numbers old name (Ok s) new = (length name ≤ 200) × (new ≡ interned old name) × (number_of new name ≡ Some s.0)
-Numbers old name (Err e) new = ((e.0 ≡ Memory) ⊎ ((e.0 ≡ NameTooLong) × (200 < length name))) × (e.1 ≡ 0) × (new ≡ old)
+Numbers old name (Ok s) new = (length name ≤ MOST_NAME_BYTES) × (new ≡ interned old name) × (number_of new name ≡ Some s.0)
+Numbers old name (Err e) new = ((e.0 ≡ Memory) ⊎ ((e.0 ≡ NameTooLong) × (MOST_NAME_BYTES < length name))) × (e.1 ≡ 0) × (new ≡ old)
 
 -- the token of the rest with its length, or the fault there
 abbrev pub Tells : List (List ℕ) → List ℕ → Result (Token × ℕ) (LexKind × ℕ) → List (List ℕ) → Type 0

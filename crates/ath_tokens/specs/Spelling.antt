@@ -3,6 +3,7 @@ use Rattle.std.specs.Prelude.{ℕ, ◌+◌, ◌-◌, ◌*◌, Bool, true, false,
 use Rattle.std.specs.Char.{is_ascii_digit}
 use Rattle.std.specs.List.{list_all, prefix_len}
 use Rattle.std.specs.Str.{is_utf8}
+use Rattle.ath_tokens.specs.declared.limits.TheConstants.{MOST_INDEX_DIGITS}
 use Rattle.ath_tokens.specs.Bytes.{is_word_char, begins_part, is_at_part, is_punct}
 use Rattle.ath_tokens.specs.Quoted.{Quoted, plain, closed, wrong, unclosed, quoted}
 
@@ -23,10 +24,10 @@ abbrev pub goes_on_word : List ℕ → Bool
 goes_on_word [] = true
 goes_on_word (b ∷ bs) = (is_word_char b || (b == 46 && is_at_part bs)) && goes_on_word bs
 
--- an index: 1 to 18 digits, the first not 0
+-- an index: digits, the first not 0, as many as may be
 abbrev pub is_index : List ℕ → Bool
 is_index [] = false
-is_index (d ∷ ds) = not (d == 48) && list_all is_ascii_digit (d ∷ ds) && nat_lt (length ds) 18
+is_index (d ∷ ds) = not (d == 48) && list_all is_ascii_digit (d ∷ ds) && nat_lt (length ds) MOST_INDEX_DIGITS
 
 abbrev pub number : List ℕ → ℕ
 number ds = fold (λ n d. 10 * n + (d - 48)) 0 ds

@@ -12,7 +12,7 @@ use Rattle.ath_tokens.specs.Cut.{fault_in}
 use Rattle.ath_tokens.specs.Quoted.{Quoted, plain, closed, wrong, unclosed, after, quoted}
 
 abbrev pub as_quoted : Answer → Quoted
-as_quoted (Closed n means) = closed n means
+as_quoted (Closed n means) = closed n means.items
 as_quoted (Wrong back at) = wrong back at
 as_quoted Unclosed = unclosed
 
@@ -27,7 +27,7 @@ fault_lexed f = Fault f.0 f.1
 
 -- the token of a string, or its fault
 abbrev pub string_lexed : List ℕ → Answer → Lexed
-string_lexed body (Closed n means) = if is_utf8 (take n body) then Str means (n + 2) else fault_lexed (fault_in body (closed n means))
+string_lexed body (Closed n means) = if is_utf8 (take n body) then Str means.items (n + 2) else fault_lexed (fault_in body (closed n means.items))
 string_lexed body (Wrong back at) = fault_lexed (fault_in body (wrong back at))
 string_lexed body Unclosed = fault_lexed (fault_in body unclosed)
 

@@ -3,17 +3,21 @@
 ghost use Rattle.std.specs.Prelude.{◌≡◌, ◌+◌, ◌<◌, ◌≤◌, true, false, not, ◌==◌, ◌&&◌, ◌||◌, length, drop, take, slice_index, IfOk};
 ghost use Rattle.std.specs.List.{prefix_len, list_all};
 ghost use Rattle.std.specs.Char.{is_ascii_digit as digit};
+ghost use Rattle.std.specs.Str.{IsUtf8};
 ghost use Rattle.std.specs.Str.Lossy.{utf8_valid_len};
+ghost use Rattle.ath_tokens.specs.declared.limits.TheConstants.{MOST_INDEX_DIGITS};
 ghost use Rattle.ath_tokens.specs.Bytes.{is_word_char as word_char, begins_part as part_begins, is_at_part as at_part};
 ghost use Rattle.ath_tokens.specs.Spelling.{number as value_of};
 ghost use Rattle.ath_tokens.specs.Cut.{gap_len as gap, is_at_character as at_character};
-ghost use Rattle.ath_tokens.specs.Strings.{string_lexed, fault_at, IsWithin};
+ghost use Rattle.ath_tokens.specs.Quoted.{plain, closed, quoted as quoted_as};
+ghost use Rattle.ath_tokens.specs.Strings.{as_quoted, string_lexed, fault_at, IsWithin};
 ghost use Rattle.ath_tokens.specs.Scan.{StopsBeingUtf8, goes_on, word_more, index_digits, Faults, Lexes};
 
 use crate::bytes::{begins_character, begins_part, is_blank, is_punct, is_word_char};
+use crate::limits::MOST_INDEX_DIGITS;
 use crate::quoted::{Quoted, read_quoted};
 use crate::tokens::LexKind;
-use sqlite_items::Items;
+use ath_syntax::Text;
 use std::alloc::{AllocError, Global};
 
 /// The longest token at the front of a text, or the fault there.
@@ -31,7 +35,7 @@ pub(crate) enum Lexed {
         name_len: usize,
     },
     Str {
-        bytes: Items<u8>,
+        text: Text,
         len: usize,
     },
     Punct(u8),
@@ -198,22 +202,22 @@ fn read_var(rest: &[u8]) -> Lexed
 /// How many digits of an index stand after a `%` at the front.
 fn index_len(rest: &[u8]) -> usize
     ensures len { result ≡ index_digits rest.now }
-    ensures short { result ≤ 18 }
+    ensures short { result ≤ MOST_INDEX_DIGITS }
     ensures within { 0 < result → 1 + result ≤ length rest.now }
 {
     if rest.first().copied() != Some(b'%') || rest.get(1).copied() == Some(b'0') {
         return 0;
     }
     let mut len = 0;
-    while len < 18 && 1 + len < rest.len() && rest[1 + len].is_ascii_digit() {
+    while len < MOST_INDEX_DIGITS && 1 + len < rest.len() && rest[1 + len].is_ascii_digit() {
         len += 1;
     }
     len
 }
 
-/// The value of at most eighteen digits.
+/// The value of the digits of an index.
 fn number(digits: &[u8]) -> u64
-    requires short { length digits.now ≤ 18 }
+    requires short { length digits.now ≤ MOST_INDEX_DIGITS }
     requires digits { list_all digit digits.now ≡ true }
     ensures { result ≡ value_of digits.now }
 {
@@ -235,7 +239,8 @@ fn read_string(alloc: Global, rest: &[u8]) -> Result<Lexed, AllocError>
 }
 
 fn match_string(body: &[u8], quoted: Quoted) -> Lexed
-    requires { IsWithin body.now quoted }
+    requires within { IsWithin body.now quoted }
+    requires quoted { quoted_as plain body.now ≡ as_quoted quoted }
     ensures meaning { result ≡ string_lexed body.now quoted }
     ensures within { fault_at result ≤ length body.now }
 {
@@ -246,18 +251,30 @@ fn match_string(body: &[u8], quoted: Quoted) -> Lexed
     }
 }
 
-fn closed_string(body: &[u8], len: usize, bytes: Items<u8>) -> Lexed
-    requires { len < length body.now }
+fn closed_string(body: &[u8], len: usize, bytes: Vec<u8>) -> Lexed
+    requires within { len < length body.now }
+    requires closed { quoted_as plain body.now ≡ closed len bytes.items }
     ensures meaning { result ≡ string_lexed body.now (Quoted.Closed len bytes) }
     ensures within { fault_at result ≤ length body.now }
 {
     match utf8_fault(&body[..len]) {
         None => Lexed::Str {
-            bytes,
+            text: text_of(bytes),
             len: len + 2,
         },
         Some(at) => Lexed::Fault(LexKind::BadUtf8, 1 + at),
     }
+}
+
+/// The text of these bytes.
+fn text_of(bytes: Vec<u8>) -> Text
+    requires { IsUtf8 bytes.items }
+    ensures { result ≡ bytes.items }
+{
+    let Ok(string) = String::from_utf8(bytes) else {
+        unreachable!()
+    };
+    Text::new(string)
 }
 
 fn wrong_escape(body: &[u8], back: usize, at: usize) -> Lexed

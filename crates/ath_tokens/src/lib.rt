@@ -4,12 +4,11 @@
 mod bytes;
 pub mod laws;
 mod lexeme;
+pub mod limits;
 mod mark;
 mod quoted;
 mod tokens;
 
+pub use limits::MOST_INDEX_DIGITS;
 pub use mark::Mark;
 pub use tokens::{LexError, LexKind, Token, Tokens};
-
-#[cfg(test)]
-mod tests;

@@ -7,14 +7,13 @@ ghost use Rattle.ath_tokens.specs.Quoted.{plain, quoted};
 ghost use Rattle.ath_tokens.specs.Strings.{as_quoted, Escapes, IsWithin};
 
 use crate::bytes::is_octal_digit;
-use sqlite_items::Items;
 use std::alloc::{AllocError, Global};
 
 /// How a string goes on after its opening quote.
 #[derive(Drop)]
 pub(crate) enum Quoted {
     /// The closing quote stands after so many bytes, and these bytes are meant.
-    Closed(usize, Items<u8>),
+    Closed(usize, Vec<u8>),
     /// The byte `at` shows that the escape whose backslash stands `back` bytes before it is none.
     Wrong { back: usize, at: usize },
     Unclosed,
@@ -32,7 +31,7 @@ pub(crate) fn read_quoted(alloc: Global, body: &[u8]) -> Result<Quoted, AllocErr
     ensures meaning { IfOk result (λ q. quoted plain body.now ≡ as_quoted q) }
     ensures within { IfOk result (IsWithin body.now) }
 {
-    let mut means = Items::new(alloc);
+    let mut means = Vec::new(alloc);
     let mut at = 0;
     while at < body.len() {
         let byte = body[at];

@@ -10,8 +10,7 @@ use crate::lexeme::{Lexed, gap_len, part_of, read_lexeme, utf8_fault};
 use crate::mark::{Mark, moved, place};
 use ath_names::{NameError, Names};
 use ath_sorts::Sym;
-use ath_syntax::Pos;
-use sqlite_items::Items;
+use ath_syntax::{Pos, Text};
 use std::alloc::Global;
 use std::marker::Model;
 use thiserror::Error;
@@ -24,8 +23,8 @@ pub enum Token {
     /// A variable, with its index.
     Var(Sym, u64),
     SortVar(Sym),
-    /// A string, by the bytes that it means.
-    Str(Items<u8>),
+    /// A string, by what it means.
+    Str(Text),
     /// A bracket or another mark, by its byte.
     Punct(u8),
     /// `:=`.
@@ -41,7 +40,7 @@ pub enum LexKind {
     BadChar,
     /// A string without its closing quote.
     OpenString,
-    /// A name of more than 200 bytes.
+    /// A name of more than `MOST_NAME_BYTES` bytes.
     NameTooLong,
     /// Out of memory. The place then says nothing.
     Memory,
@@ -278,7 +277,7 @@ fn named(
             let name = intern(alloc, part_of(rest, 1, name_len), names)?;
             Ok((Token::SortVar(name), 1 + name_len))
         }
-        Lexed::Str { bytes, len } => Ok((Token::Str(bytes), len)),
+        Lexed::Str { text, len } => Ok((Token::Str(text), len)),
         Lexed::Punct(byte) => Ok((Token::Punct(byte), 1)),
         Lexed::Becomes => Ok((Token::Becomes, 2)),
         Lexed::Fault(kind, at) => Err((kind, at)),

@@ -5,7 +5,10 @@ pub mod UnderLaws
 pub mod Occurring
 pub mod Renaming
 pub mod SubstLaws
+pub mod SubstForms
 pub mod SortUnderLaws
+pub mod SortUnderForms
+pub mod BinderLaws
 pub mod ClosingLaws
 pub mod Forms
 pub mod InstanceLaws

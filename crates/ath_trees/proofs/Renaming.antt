@@ -9,10 +9,11 @@ use Rattle.ath_trees.specs.Variables.{is_namesake, same_var, with_terms, term_va
 use Rattle.ath_trees.specs.Occurrences.{is_among, is_named, every_var, at_index, ceiling, least_unused, renewed}
 use Rattle.ath_trees.specs.Nameless.{NTerm, nfree, nbound, napp, nmore, natom, nequal, nnegated, njoined, nquant, placed, nameless_term, nameless_terms, nameless_under}
 use Rattle.ath_trees.specs.Substitution.{subst_term, subst_terms, subst_to}
+use Rattle.ath_trees.specs.Renamed.{renamed}
 use Rattle.ath_trees.proofs.Occurring.{by_cases, or-left, or-right, not_true, namesake-sym, same_var-refl, same_var-true, same_var-sym, among-append, named-append, among-more, among-equal, among-joined, among-bound_of, among-of_bound, free-every}
 
 -- ---- a renewed variable is unused
-below_ceiling : (v : Var) (k : ℕ) (us : List Var) → ceiling us ≤ k → is_named (at_index v k) us ≡ false
+pub below_ceiling : (v : Var) (k : ℕ) (us : List Var) → ceiling us ≤ k → is_named (at_index v k) us ≡ false
 below_ceiling v k [] h = refl
 below_ceiling v k (u ∷ us) h =
     let r = below_ceiling v k us (omega arith) in
@@ -75,13 +76,6 @@ cong c d (bound q y p) h =
     (λ f. under c d y v v (h v (among-bound_of v q y p f e)) refl)))
 
 -- ---- a renaming: y' has under d the place of y under c
-abbrev pub renamed : Var → Var → Sent → Sent
-renamed y y' (atom t) = atom (subst_term y (var y') t)
-renamed y y' (equal s t) = equal (subst_term y (var y') s) (subst_term y (var y') t)
-renamed y y' (negated p) = negated (renamed y y' p)
-renamed y y' (joined c p q) = joined c (renamed y y' p) (renamed y y' q)
-renamed y y' (bound q v p) = if same_var y v then bound q v p else bound q v (renamed y y' p)
-
 abbrev swapped : Var → Var → Var → Var
 swapped y y' v = if same_var y v then y' else v
 
@@ -133,7 +127,7 @@ binder-renamed c y y' p n = renames (y ∷ c) (y' ∷ c) y y' p n (λ v e. by_ca
 
 -- ---- the nodes and the levels
 mutual
-  size-term : (y y' : Var) (t : Term) → term_size (subst_term y (var y') t) ≡ term_size t
+  pub size-term : (y y' : Var) (t : Term) → term_size (subst_term y (var y') t) ≡ term_size t
   size-term y y' (var v) = by_cases (same_var y v) (λ t. rw t) (λ f. rw f)
   size-term y y' (app f ss ts) = ap (λ n. 1 + n) (size-terms y y' ts)
 
@@ -149,7 +143,7 @@ size-renamed y y' (joined k p q) = let a = size-renamed y y' p in let b = size-r
 size-renamed y y' (bound q u p) = by_cases (same_var y u) (λ t. rw t) (λ f. rw f (ap (λ n. 1 + n) (size-renamed y y' p)))
 
 mutual
-  depth-term : (y y' : Var) (t : Term) → term_depth (subst_term y (var y') t) ≡ term_depth t
+  pub depth-term : (y y' : Var) (t : Term) → term_depth (subst_term y (var y') t) ≡ term_depth t
   depth-term y y' (var v) = by_cases (same_var y v) (λ t. rw t) (λ f. rw f)
   depth-term y y' (app f ss ts) = ap (λ n. 1 + n) (depth-terms y y' ts)
 
@@ -177,7 +171,7 @@ sent-deep (bound q u p) = omega arith
 
 -- ---- substitution of an unused variable renames no binder
 mutual
-  term-absent : (y : Var) (by t : Term) → is_among y (term_vars t) ≡ false → subst_term y by t ≡ t
+  pub term-absent : (y : Var) (by t : Term) → is_among y (term_vars t) ≡ false → subst_term y by t ≡ t
   term-absent y by (var v) e = let m = or_parts (same_var y v) false e in rw m.0
   term-absent y by (app f ss ts) e = ap (app f ss) (terms-absent y by ts e)
 
@@ -189,7 +183,7 @@ mutual
       let b = terms-absent y by ts m.1 in
       λ i. more (a i) (b i)
 
-renamed-absent : (y y' : Var) (p : Sent) → is_among y (free_vars p) ≡ false → renamed y y' p ≡ p
+pub renamed-absent : (y y' : Var) (p : Sent) → is_among y (free_vars p) ≡ false → renamed y y' p ≡ p
 renamed-absent y y' (atom t) e = ap atom (term-absent y (var y') t e)
 renamed-absent y y' (equal s t) e =
     let m = or_parts (is_among y (term_vars s)) (is_among y (term_vars t)) (sym (among-equal y s t) ∙ e) in

@@ -13,8 +13,9 @@ use Rattle.ath_trees.specs.Under.{var_under, term_under, terms_under, sent_under
 use Rattle.ath_trees.specs.Nameless.{NTerm, nfree, nbound, napp, nmore, natom, nequal, nnegated, njoined, nquant, placed, nameless_term, nameless_terms, nameless_under, nameless, term_instance, terms_instance, sent_instance}
 use Rattle.ath_trees.specs.Substitution.{subst_term, subst_terms}
 use Rattle.ath_trees.specs.SortUnder.{is_met, at_sorts_to, sent_at_sorts}
+use Rattle.ath_trees.specs.Renamed.{renamed}
 use Rattle.ath_trees.proofs.Occurring.{by_cases, or-left, or-right, same_var-refl, same_var-true, same_var-sym, apart, unnamed, not_named, among-more, among-equal, among-joined, among-bound_of, among-of_bound, free-every}
-use Rattle.ath_trees.proofs.Renaming.{renewed-unused, shift, placed-shift, renamed, binder-renamed, size-renamed, depth-renamed, sent-deep, subst-renamed}
+use Rattle.ath_trees.proofs.Renaming.{renewed-unused, shift, placed-shift, binder-renamed, size-renamed, depth-renamed, sent-deep, subst-renamed}
 use Rattle.ath_trees.proofs.UnderLaws.{sent_size-under, sent_depth-under}
 
 -- ---- what is free after a renaming

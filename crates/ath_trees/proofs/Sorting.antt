@@ -13,6 +13,7 @@ use Rattle.ath_trees.specs.Variables.{same_var, term_vars, free_vars}
 use Rattle.ath_trees.specs.Occurrences.{is_among, is_named, every_var, renewed}
 use Rattle.ath_trees.specs.Under.{var_under}
 use Rattle.ath_trees.specs.Substitution.{subst_term, subst_terms, other, subst_to, subst_sent}
+use Rattle.ath_trees.specs.Renamed.{renamed}
 use Rattle.ath_trees.specs.SortUnder.{is_met, at_sorts_to, sent_at_sorts}
 use Rattle.ath_trees.specs.Closing.{closing, closed_over}
 use Rattle.ath_trees.specs.WellSorted.{is_valid_sort, HasSort, var_has, app_has, HaveSorts, none_has, more_has, IsWellSorted}
@@ -27,7 +28,7 @@ either sig false p q h k = k
 
 module _ (sig : Signature) where
   mutual
-    has_sort-put : (x : Var) (by t : Term) (s : Sort) → HasSort sig by x.sort → HasSort sig t s → HasSort sig (subst_term x by t) s
+    pub has_sort-put : (x : Var) (by t : Term) (s : Sort) → HasSort sig by x.sort → HasSort sig t s → HasSort sig (subst_term x by t) s
     has_sort-put x by (var v) s h (var_has e f) = by_cases (same_var x v)
         (λ t. let p = same_var-true x v t in rw t (subst (HasSort sig by) (ap (λ (u : Var). u.sort) p ∙ sym f) h))
         (λ n. rw n (var_has e f))
@@ -36,6 +37,13 @@ module _ (sig : Signature) where
     have_sorts-put : (x : Var) (by : Term) (ts : Terms) (ss : List Sort) → HasSort sig by x.sort → HaveSorts sig ts ss → HaveSorts sig (subst_terms x by ts) ss
     have_sorts-put x by none ss h none_has = none_has
     have_sorts-put x by (more t ts) ss h (more_has a b) = more_has (has_sort-put x by t _ h a) (have_sorts-put x by ts _ h b)
+
+  pub renamed-sorted : (y z : Var) (p : Sent) → HasSort sig (var z) y.sort → IsWellSorted sig p → IsWellSorted sig (renamed y z p)
+  renamed-sorted y z (atom t) h w = has_sort-put y (var z) t _ h w
+  renamed-sorted y z (equal s t) h w = (w.0, (has_sort-put y (var z) s w.0 h w.1.0, has_sort-put y (var z) t w.0 h w.1.1))
+  renamed-sorted y z (negated p) h w = renamed-sorted y z p h w
+  renamed-sorted y z (joined c p q) h w = (renamed-sorted y z p h w.0, renamed-sorted y z q h w.1)
+  renamed-sorted y z (bound k v p) h w = either sig (same_var y v) (bound k v p) (bound k v (renamed y z p)) w (w.0, renamed-sorted y z p h w.1)
 
   put-sorted : (n : ℕ) (x : Var) (by : Term) (p : Sent) → HasSort sig by x.sort → IsWellSorted sig p → IsWellSorted sig (subst_to n x by p)
   put-sorted zero x by p h w = w

@@ -13,8 +13,9 @@ use Rattle.ath_trees.specs.Variables.{same_var, with_terms, term_vars, free_vars
 use Rattle.ath_trees.specs.Occurrences.{is_among, is_named, every_var}
 use Rattle.ath_trees.specs.Nameless.{NTerm, nfree, napp, nmore, natom, nequal, nnegated, njoined, nquant, placed, nameless_term, nameless_terms, nameless_under, nameless, term_instance, terms_instance, sent_instance}
 use Rattle.ath_trees.specs.Substitution.{subst_term, subst_terms, other, subst_to, subst_sent, replacing}
+use Rattle.ath_trees.specs.Renamed.{renamed}
 use Rattle.ath_trees.proofs.Occurring.{by_cases, or-left, or-right, not_true, same_var-refl, same_var-true, same_var-sym, named-append, unnamed, among-more, among-equal, among-joined, among-bound_of, among-of_bound, free-every}
-use Rattle.ath_trees.proofs.Renaming.{renewed-unused, term-cong, renamed, binder-renamed, depth-renamed, sent-deep, subst-renamed}
+use Rattle.ath_trees.proofs.Renaming.{renewed-unused, term-cong, binder-renamed, depth-renamed, sent-deep, subst-renamed}
 
 pub other-unused : (v : Var) (by : Term) (p : Sent) → (is_named (other v by p) (term_vars by) ≡ false) × (is_named (other v by p) (every_var p) ≡ false)
 other-unused v by p = or_parts _ _ (sym (named-append (other v by p) (term_vars by) (every_var p)) ∙ renewed-unused v (term_vars by ++ every_var p))

@@ -10,6 +10,7 @@ pub mod Under
 pub mod Occurrences
 pub mod Nameless
 pub mod Substitution
+pub mod Renamed
 pub mod SortUnder
 pub mod Closing
 pub mod Instance

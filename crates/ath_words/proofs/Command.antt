@@ -72,15 +72,15 @@ unfolding walk_fault
 goes_on w after word words none next =
     ap₂ (λ (kinds : Kinds) (v : Walk). ended (or_else kinds (walk_fault top [] v words)) (fold (walked rules []) v words)) none next
 
-abbrev pub IsFault : Kinds → Type 0
-IsFault [] = ⊥
-IsFault (kind ∷ kinds) = Unit {0}
+abbrev pub HasFault : Kinds → Type 0
+HasFault [] = ⊥
+HasFault (kind ∷ kinds) = Unit {0}
 
-pub stops : (w : Walk) (word : Text) (words : List Text) → IsFault (turn_fault top [] w word) → answer_from w (word ∷ words) ≡ None
+pub stops : (w : Walk) (word : Text) (words : List Text) → HasFault (turn_fault top [] w word) → answer_from w (word ∷ words) ≡ None
 unfolding walk_fault
 stops w word words bad = by (turn_fault top [] w word) bad
   where
-    by : (kinds : Kinds) → IsFault kinds
+    by : (kinds : Kinds) → HasFault kinds
         → ended (or_else kinds (walk_fault top [] (walked rules [] w word) words)) (fold (walked rules []) (walked rules [] w word) words) ≡ None
     by [] h = absurd h
     by (k ∷ ks) h = refl

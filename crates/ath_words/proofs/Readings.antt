@@ -13,8 +13,8 @@ use Rattle.clap.specs.declared.error.Error.{Error}
 use Rattle.clap.specs.declared.error.kind.ErrorKind.TheVariants.{OutOfMemory}
 use Rattle.clap.specs.Faults.{is_simple_and_free, check_fault, defaults_fault, entered_fault, settle_fault, fault_of, walk_fault, flags_fault, other_fault, turn_fault, use_fault}
 use Rattle.ath_words.specs.Command.{athena, said_by_rows}
-use Rattle.ath_words.specs.Words.{run_of, fuel_of, is_file, Asked, Said, any, number, asked_by, said_by, with_file}
-use Rattle.ath_words.proofs.Command.{athena_is_simple, Pending, IsFault, answer, answer_from, at, held, fault_with, file_rule, fuel_rule, goes_on, rows_with, rules, stops, top}
+use Rattle.ath_words.specs.Words.{run_of, fuel_of, is_file, Asked, Choices, any, number, asked_by, said_by, with_file}
+use Rattle.ath_words.proofs.Command.{athena_is_simple, Pending, HasFault, answer, answer_from, at, held, fault_with, file_rule, fuel_rule, goes_on, rows_with, rules, stops, top}
 use Rattle.ath_words.proofs.Rows.{Has, has_file, has_fuel}
 use Rattle.ath_words.proofs.WordKinds.{IsRefused, NamesFile, Unread, WordKind, ends, file, fuel_is, fuel_next, long, refused, short, word_kind}
 
@@ -36,7 +36,7 @@ AreTexts (word ∷ words) = IsUtf8 word × AreTexts words
 
 -- ---- one word
 
-first_fault : (kinds others : Kinds) → IsFault kinds → IsFault (or_else kinds others)
+first_fault : (kinds others : Kinds) → HasFault kinds → HasFault (or_else kinds others)
 first_fault [] others bad = absurd bad
 first_fault (kind ∷ kinds) others bad = tt
 
@@ -75,12 +75,12 @@ module _ (rows : List Row) (p : Pending) where
   joined_next (option id) text = refl
   joined_next positional text = refl
 
-  unread_fault : (word : Text) → bytes_eq word (codes "--") ≡ false → Unread word → IsFault (other_fault top None word (held rows p))
+  unread_fault : (word : Text) → bytes_eq word (codes "--") ≡ false → Unread word → HasFault (other_fault top None word (held rows p))
   unfolding flags_fault
   unread_fault word no_end (long name value is_long none) = rw (no_end, is_long, none) tt
   unread_fault word no_end (short b x bs no_long is_short first) = rw (no_end, no_long, is_short, first) tt
 
-  refused_fault : (w : Waiting) (word : Text) → IsRefused word → IsFault (turn_fault top [] (at rows p w false) word)
+  refused_fault : (w : Waiting) (word : Text) → IsRefused word → HasFault (turn_fault top [] (at rows p w false) word)
   refused_fault idle word h = first_fault _ _ (unread_fault word h.end h.unread)
   refused_fault (option id) word h = first_fault _ _ (unread_fault word h.end h.unread)
   refused_fault positional word h = first_fault _ _ (unread_fault word h.end h.unread)
@@ -115,7 +115,7 @@ number_next rows word h = rw (h.end, h.long, h.short) refl
 
 -- ---- ends
 
-answer_of_fault : (kinds : Kinds) (rows : List Row) → IsFault kinds → answer kinds rows ≡ None
+answer_of_fault : (kinds : Kinds) (rows : List Row) → HasFault kinds → answer kinds rows ≡ None
 answer_of_fault [] rows bad = absurd bad
 answer_of_fault (kind ∷ kinds) rows bad = refl
 
@@ -128,30 +128,30 @@ module _ (rows : List Row) (p : Pending) where
   at_end w trailing = refl
 
   -- what is pending is at fault
-  module _ (bad : IsFault (fault_with rows p)) where
+  module _ (bad : HasFault (fault_with rows p)) where
     lost_after_end : (w : Waiting) (words : List Text) → answer_from (at rows p w true) words ≡ None
     lost_after_end w [] = at_end w true ∙ answer_of_fault (fault_with rows p) (rows_with rows p) bad
-    lost_after_end w (word ∷ words) = stops _ word words (subst IsFault (sym (trailing_fault rows p w word)) bad)
+    lost_after_end w (word ∷ words) = stops _ word words (subst HasFault (sym (trailing_fault rows p w word)) bad)
 
     lost_by : (w : Waiting) (word : Text) (words : List Text) → (NamesFile word → answer_from (at rows p w false) (word ∷ words) ≡ None) → WordKind word
         → answer_from (at rows p w false) (word ∷ words) ≡ None
     lost_by w word words on_file (ends is) = subst (λ (x : Text). answer_from (at rows p w false) (x ∷ words) ≡ None) (sym is)
         (goes_on _ _ (codes "--") words (end_fault rows p w) (end_next rows p w) ∙ lost_after_end w words)
     lost_by w word words on_file (fuel_next is) = subst (λ (x : Text). answer_from (at rows p w false) (x ∷ words) ≡ None) (sym is)
-        (stops _ (codes "--fuel") words (subst IsFault (sym (next_fault rows p w)) (first_fault _ [] bad)))
+        (stops _ (codes "--fuel") words (subst HasFault (sym (next_fault rows p w)) (first_fault _ [] bad)))
     lost_by w word words on_file (fuel_is text is) = subst (λ (x : Text). answer_from (at rows p w false) (x ∷ words) ≡ None) (sym is)
-        (stops _ (codes "--fuel=" ++ text) words (subst IsFault (sym (joined_fault rows p w text)) (first_fault _ [] (first_fault _ _ bad))))
+        (stops _ (codes "--fuel=" ++ text) words (subst HasFault (sym (joined_fault rows p w text)) (first_fault _ [] (first_fault _ _ bad))))
     lost_by w word words on_file (refused h) = stops _ word words (refused_fault rows p w word h)
     lost_by w word words on_file (file h) = on_file h
 
     lost : (w : Waiting) (words : List Text) → IsFree w → AreTexts words → answer_from (at rows p w false) words ≡ None
     lost w [] free texts = at_end w false ∙ answer_of_fault (fault_with rows p) (rows_with rows p) bad
     lost w (word ∷ words) free texts =
-        lost_by w word words (λ h. stops _ word words (subst IsFault (sym (file_fault rows p w word free h)) bad)) (word_kind word texts.0)
+        lost_by w word words (λ h. stops _ word words (subst HasFault (sym (file_fault rows p w word free h)) bad)) (word_kind word texts.0)
 
 -- ---- `--fuel` twice
 
-used_again : (rows : List Row) (text : Text) → has_row fuel_id rows ≡ true → IsFault (use_fault false fuel_rule (text ∷ []) rows)
+used_again : (rows : List Row) (text : Text) → has_row fuel_id rows ≡ true → HasFault (use_fault false fuel_rule (text ∷ []) rows)
 used_again rows text there = rw there tt
 
 first_use : (rows : List Row) (text : Text) → has_row fuel_id rows ≡ false → use_fault false fuel_rule (text ∷ []) rows ≡ []
@@ -166,13 +166,13 @@ fuel_twice rows (word ∷ words) there texts = lost_by rows (Some (fuel_id, []))
 
 -- ---- what the words say, after others
 
-abbrev before : List Text → Said → Said
+abbrev before : List Text → Choices → Choices
 before files said = (said.0, files ++ said.1)
 
-abbrev run_after : List Text → Option Said → Option Asked
+abbrev run_after : List Text → Option Choices → Option Asked
 run_after files said = option_and_then asked_by (option_map (before files) said)
 
-run_with_file : (files : List Text) (name : Text) (said : Option Said) → run_after (files ++ name ∷ []) said ≡ run_after files (option_map (with_file name) said)
+run_with_file : (files : List Text) (name : Text) (said : Option Choices) → run_after (files ++ name ∷ []) said ≡ run_after files (option_map (with_file name) said)
 run_with_file files name None = refl
 run_with_file files name (Some said) = ap (λ (fs : List Text). asked_by (said.0, fs)) (append_assoc files (name ∷ []) said.1)
 
@@ -264,8 +264,8 @@ module _ (words : List Text) (texts : AreTexts words) (on : RunsOn words) (on_nu
       ∙ ap (λ kinds. or_else kinds []) (first_use (rows_with rows p) text h.has.is_there)) (joined_next rows p w text)
       ∙ on (used fuel_rule (text ∷ []) (rows_with rows p)) None idle (Some text) files tt (record { whole = refl; has = has_fuel text (rows_with rows p) files h.has })
   on_joined text rows p w (Some given) files free h =
-      stops _ (codes "--fuel=" ++ text) words (subst IsFault (sym (joined_fault rows p w text))
-      (first_fault _ [] (subst (λ kinds. IsFault (or_else kinds (use_fault false fuel_rule (text ∷ []) (rows_with rows p)))) (sym h.whole)
+      stops _ (codes "--fuel=" ++ text) words (subst HasFault (sym (joined_fault rows p w text))
+      (first_fault _ [] (subst (λ kinds. HasFault (or_else kinds (use_fault false fuel_rule (text ∷ []) (rows_with rows p)))) (sym h.whole)
       (used_again (rows_with rows p) text h.has.is_there))))
 
   on_refused : (word : Text) → IsRefused word → RunsOn (word ∷ words)
@@ -314,7 +314,7 @@ runs_on (word ∷ words) texts =
 no_rows : Has [] None []
 no_rows = record { first = refl; is_there = refl; files = refl }
 
-run_after_none : (said : Option Said) → run_after [] said ≡ option_and_then asked_by said
+run_after_none : (said : Option Choices) → run_after [] said ≡ option_and_then asked_by said
 run_after_none None = refl
 run_after_none (Some said) = refl
 
@@ -380,7 +380,7 @@ no_run_when_err a words e is texts kinds other =
     sym (answer_of_fault (fault_of a words) (matches_of a words) (by (fault_of a words) kinds))
     ∙ ap (λ (b : App). answer (fault_of b words) (matches_of b words)) is ∙ answer_at words texts
   where
-    by : (kinds : Kinds) → HasKind kinds e → IsFault kinds
+    by : (kinds : Kinds) → HasKind kinds e → HasFault kinds
     by [] (inl memory) = other memory
     by [] (inr among) = among
     by (kind ∷ kinds) h = tt

@@ -38,16 +38,16 @@ pub data Due : Type 0 where
   number : Due
 
 -- the text of `--fuel`, where it is there, and the files
-abbrev pub Said : Type 0
-Said = Option (List ℕ) × List (List ℕ)
+abbrev pub Choices : Type 0
+Choices = Option (List ℕ) × List (List ℕ)
 
-abbrev pub with_file : List ℕ → Said → Said
+abbrev pub with_file : List ℕ → Choices → Choices
 with_file file said = (said.0, file ∷ said.1)
 
 -- what the words say, after words that gave `--fuel` the text `given`, or none; it is nothing where
 -- one of them is refused, as every option is that follows a `--fuel`. The word after `--fuel` is its
 -- text, whatever it is
-abbrev pub said_by : Due → Option (List ℕ) → List (List ℕ) → Option Said
+abbrev pub said_by : Due → Option (List ℕ) → List (List ℕ) → Option Choices
 said_by any given [] = Some (given, [])
 said_by any given (word ∷ words) =
     if bytes_eq word (codes "--") then Some (given, words)
@@ -66,7 +66,7 @@ pub record Asked : Type 0 where
   pub fuel : ℕ
   pub files : List (List ℕ)
 
-abbrev pub asked_by : Said → Option Asked
+abbrev pub asked_by : Choices → Option Asked
 asked_by (given, []) = None
 asked_by (given, file ∷ files) = option_map (λ n. record { fuel = n; files = file ∷ files }) (fuel_of given)
 

@@ -8,7 +8,7 @@ mod tests;
 
 ghost use Rattle.std.specs.Prelude.{◌≡◌, IfOk, map, option_map, string_bytes};
 ghost use Rattle.clap.specs.Words.{app_of, found_of};
-ghost use Rattle.ath_words.specs.Command.{athena, said_in};
+ghost use Rattle.ath_words.specs.Command.{athena, choices_in};
 ghost use Rattle.ath_words.specs.Words.{asked_by, asked_of, fuel_of, run_of};
 
 use crate::fuel::fuel;
@@ -53,7 +53,7 @@ pub fn read_words<'a>(alloc: Global, words: &'a [String]) -> Result<Option<Run<'
 
 /// The run that the matches spell, where its number is one and it has a file.
 fn checked<'a>(alloc: Global, matches: &ArgMatches<'a>) -> Result<Option<Run<'a>>, AllocError>
-    ensures { IfOk result (λ run. option_map asked_of run ≡ asked_by (said_in (found_of matches.now))) }
+    ensures { IfOk result (λ run. option_map asked_of run ≡ asked_by (choices_in (found_of matches.now))) }
 {
     let files = files_in(alloc, matches)?;
     if files.is_empty() {
@@ -67,14 +67,14 @@ fn checked<'a>(alloc: Global, matches: &ArgMatches<'a>) -> Result<Option<Run<'a>
 
 /// The fuel that the matches give.
 fn fuel_in(matches: &ArgMatches<'_>) -> Option<u64>
-    ensures { result ≡ fuel_of (said_in (found_of matches.now)).0 }
+    ensures { result ≡ fuel_of (choices_in (found_of matches.now)).0 }
 {
     fuel(matches.get_str("fuel"))
 }
 
 /// The files that the matches name.
 fn files_in<'a>(alloc: Global, matches: &ArgMatches<'a>) -> Result<Vec<&'a str>, AllocError>
-    ensures { IfOk result (λ files. map (λ file. file.now) files.items ≡ (said_in (found_of matches.now)).1) }
+    ensures { IfOk result (λ files. map (λ file. file.now) files.items ≡ (choices_in (found_of matches.now)).1) }
 {
     match matches.get_strs("file") {
         Some(files) => files.to_vec(alloc),

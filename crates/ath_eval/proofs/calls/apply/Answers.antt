@@ -1,20 +1,25 @@
-use Rattle.std.proofs.Common.{arith}
-use Rattle.ath_terms.proofs.Grow.{grows-none}
-use Rattle.ath_eval.proofs.ApplyLaws.{symbol_head, connective_head}
+use Rattle.ath_eval.specs.Applying.{connective_applied}
+use Rattle.ath_eval.specs.Arguments.{values_at}
+use Rattle.ath_eval.specs.World.{context_of, environment_of}
+use Rattle.ath_eval.proofs.Worlds.{works_none, rests_works, steady_answers}
 use Rattle.ath_eval.proofs.calls.apply.Goals as goal
 
 pub returns-in_ok-outcome-in-Symbol-clause-outcome : goal.returns-in_ok-outcome-in-Symbol-clause-outcome
-returns-in_ok-outcome-in-Symbol-clause-outcome c = λ d rec env v xs same isv all. let a = c.args in let o = c.in_ok-outcome-in-Symbol in
-    symbol_head a.store.now c.apply_symbol.new.store o.outcome d rec env a.sig.now a.head a.args.now v xs a.at a.fresh.now c.apply_symbol.new.fresh same isv all c.in-Symbol.f c.in-Symbol.is o.ensures.outcome
+returns-in_ok-outcome-in-Symbol-clause-outcome c = λ rec. rw c.in-Symbol.is c.in_ok-outcome-in-Symbol.ensures.outcome
+
+pub returns-in_err-outcome-in-Conn-clause-works : goal.returns-in_err-outcome-in-Conn-clause-works
+returns-in_err-outcome-in-Conn-clause-works c = rests_works c.args.w.now c.apply_connective.new.w c.in_err-outcome-in-Conn.ensures.rests
+
+pub returns-in_ok-outcome-in-Conn-clause-works : goal.returns-in_ok-outcome-in-Conn-clause-works
+returns-in_ok-outcome-in-Conn-clause-works c = rests_works c.args.w.now c.apply_connective.new.w c.in_ok-outcome-in-Conn.ensures.rests
 
 pub returns-in_ok-outcome-in-Conn-clause-outcome : goal.returns-in_ok-outcome-in-Conn-clause-outcome
-returns-in_ok-outcome-in-Conn-clause-outcome c = λ d rec env v xs same isv all. let a = c.args in let o = c.in_ok-outcome-in-Conn in
-    connective_head a.store.now c.apply_connective.new.store o.outcome d rec env a.sig.now a.head a.args.now v xs a.at a.fresh.now a.fresh.now same isv all c.in-Conn.conn c.in-Conn.is (o.ensures.outcome a.sig.now c.requires.sorted a.fresh.now)
+returns-in_ok-outcome-in-Conn-clause-outcome c = λ rec. let o = c.in_ok-outcome-in-Conn in
+    let a = c.args in let w = a.w.now in
+    rw c.in-Conn.is (steady_answers w c.apply_connective.new.w o.outcome (connective_applied w.sig c.in-Conn.conn (values_at w.store a.args.now) a.at) o.ensures.rests o.ensures.outcome)
 
 pub returns-in_default : goal.returns-in_default
-returns-in_default c = let a = c.args in let s = a.store.now in record {
-  grows = grows-none s;
-  sorted = c.requires.sorted;
-  room = (omega arith, omega arith);
-  outcome = λ d rec env v xs same isv all. c.apply_other.ensures s d rec env v xs isv all a.fresh.now;
+returns-in_default c = let w = c.args.w.now in record {
+  works = works_none w;
+  outcome = λ rec. c.apply_other.ensures w.store (context_of w) rec (environment_of w) c.requires.head w.fresh;
 }

@@ -2,4 +2,4 @@ use Rattle.std.proofs.Common.{refl}
 use Rattle.ath_eval.proofs.refusals.unbuilt.Goals as goal
 
 pub returns-clause-outcome : goal.returns-clause-outcome
-returns-clause-outcome c = λ s h fresh fuel. (refl, c.in_ok-fault.ensures.fault s h, refl, refl)
+returns-clause-outcome c = λ s why h fresh fuel. (refl, c.in_ok-fault.ensures.fault s why h, refl, refl)

@@ -1,7 +1,7 @@
 use Rattle.std.proofs.Common.{◌∷◌, ◌<◌, List, reverse, refl, sym, ◌∙◌, ap, subst}
 use Rattle.std.proofs.lemmas.List.Elements.{All-same}
 use Rattle.ath_reader.specs.Reading.{Reading}
-use Rattle.ath_session.specs.Run.{Configuration, Moves}
+use Rattle.ath_session.specs.Run.{Configuration, IsMove}
 use Rattle.ath_session.specs.Steps.{configuration_of, IsGoing, weight}
 use Rattle.ath_session.proofs.ReadLaws.{innermost}
 use Rattle.ath_session.proofs.AdvanceLaws.{popped}
@@ -14,7 +14,7 @@ read_on-requires-clause-going g c =
 pub returns-in-Some-clause-did : goal.returns-in-Some-clause-did
 returns-in-Some-clause-did g c = λ t m told moves.
     let same = popped (configuration_of c.args.desk.now) c.args.desk.now.open.items c.pop.new.self.items c.in-Some.reader refl c.in-Some.ensures.items in
-    c.read_on.ensures.did t m told (subst (λ (k : Configuration). Moves t.texts k m) same moves)
+    c.read_on.ensures.did t m told (subst (λ (k : Configuration). IsMove t.texts k m) same moves)
 
 pub returns-in-Some-clause-falls : goal.returns-in-Some-clause-falls
 returns-in-Some-clause-falls g c = λ on.

@@ -15,7 +15,6 @@ loop-status-init g c =
     let fs = map (λ file. file.now) c.args.files.now in
     record {
       at = λ t h. new-at t.texts (record { shelf = g.S.Shelf.told c.args.shelf.now; sink = g.K.Sink.told c.args.sink.now }) c.in-Ok.desk c.args.fuel fs c.in-Ok.ensures.new;
-      sorted = c.in-Ok.ensures.sorted;
       going = new-going c.in-Ok.desk c.args.fuel fs c.in-Ok.ensures.new;
       shallow = omega (arith, ap length c.in-Ok.ensures.new.empty);
       source = omega arith;
@@ -46,7 +45,6 @@ loop-status-preserved g c =
           let m = some_move t.texts (configuration_of c.loop-status.desk) in
           goes-on t.texts (record { fuel = c.args.fuel; files = map (λ file. file.now) c.args.files.now }) (record { shelf = g.S.Shelf.told c.args.shelf.now; sink = g.K.Sink.told c.args.sink.now }) m.0 a m.1
           (subst (λ f. Did m.0 f c.loop-status.desk.errors c.advance.new.desk.errors (configuration_of c.advance.new.desk) now then) on (r.did _ m.0 told m.1));
-      sorted = r.sorted;
       going = r.going on;
       shallow = r.shallow on;
       source = omega (arith, i.source, r.source_later);

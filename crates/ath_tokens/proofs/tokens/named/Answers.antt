@@ -23,7 +23,7 @@ returns-in_ok-name-in-SortVar c =
     (subst (Lexes c.args.rest.now) c.in-SortVar.is c.requires.lexes) (subst number c.part_of-in-SortVar.ensures c.in_ok-name-in-SortVar.ensures)
 
 pub returns-in-Str : goal.returns-in-Str
-returns-in-Str c = tells-str c.args.rest.now c.requires.some c.args.names.now c.in-Str.bytes c.in-Str.len (subst (Lexes c.args.rest.now) c.in-Str.is c.requires.lexes)
+returns-in-Str c = tells-str c.args.rest.now c.requires.some c.args.names.now c.in-Str.text c.in-Str.len (subst (Lexes c.args.rest.now) c.in-Str.is c.requires.lexes)
 
 pub returns-in-Punct : goal.returns-in-Punct
 returns-in-Punct c = tells-punct c.args.rest.now c.requires.some c.args.names.now c.in-Punct.byte (subst (Lexes c.args.rest.now) c.in-Punct.is c.requires.lexes)

@@ -1,5 +1,4 @@
 use Rattle.ath_session.proofs.ReplyLaws.{value_assertion, theorem_assertion, error_assertion, spent_assertion}
-use Rattle.ath_session.proofs.SessionLaws.{value_small, theorem_small}
 use Rattle.ath_session.proofs.session.Session.assert.Goals as goal
 
 pub returns-in-Value-clause-reply : goal.returns-in-Value-clause-reply
@@ -17,11 +16,3 @@ returns-in-Error-clause-reply c =
 pub returns-in-Exhausted-clause-reply : goal.returns-in-Exhausted-clause-reply
 returns-in-Exhausted-clause-reply c =
     spent_assertion c.args.self.now.world c.run.new.w c.run.ensures.world c.args.phrase c.in_ok-value.field-0 c.in_ok-value.ensures.outcome c.ending.result c.in-Exhausted.at c.in-Exhausted.is c.ending.ensures
-
-pub assert_value-requires-clause-small : goal.assert_value-requires-clause-small
-assert_value-requires-clause-small c =
-    value_small c.run.new.w.store c.run.new.w.fuel c.run.new.w.fresh c.in_ok-value.field-0 _ (c.in_ok-value.ensures.outcome c.requires.phrase.0 c.requires.phrase.1) c.in-Value.value c.in-Value.is
-
-pub assert_value-requires-in-Theorem-clause-small : goal.assert_value-requires-in-Theorem-clause-small
-assert_value-requires-in-Theorem-clause-small c =
-    theorem_small c.run.new.w.store c.run.new.w.fuel c.run.new.w.fresh c.in_ok-value.field-0 _ (c.in_ok-value.ensures.outcome c.requires.phrase.0 c.requires.phrase.1) c.in-Theorem.p c.in-Theorem.is

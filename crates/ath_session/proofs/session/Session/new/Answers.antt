@@ -4,8 +4,8 @@ use Rattle.ath_session.proofs.NewLaws.{new_sorted}
 use Rattle.ath_session.proofs.SoundLaws.{new_sound}
 use Rattle.ath_session.proofs.session.Session.new.Goals as goal
 
-pub returns-clause-sorted : goal.returns-clause-sorted
-returns-clause-sorted c = new_sorted c.in_ok-new.field-0 c.new-3.result c.in_ok-new.ensures c.new-3.ensures
+pub invariant_of-result-clause-sorted : goal.invariant_of-result-clause-sorted
+invariant_of-result-clause-sorted c = new_sorted c.in_ok-new.field-0 c.new-3.result c.in_ok-new.ensures c.new-3.ensures
 
 pub returns-clause-sound : goal.returns-clause-sound
 returns-clause-sound c = new_sound _ c.in_ok-new.ensures (ap (entries_of c.new-3.result) c.new-4.ensures)

@@ -19,7 +19,7 @@ returns-in-Assert-clause-reply c =
 
 pub returns-in-Load-clause-reply : goal.returns-in-Load-clause-reply
 returns-in-Load-clause-reply c =
-    load_tells c.args.self.now.world c.args.self.now.world c.args.directive.now.what c.args.directive.now.pos c.load.result c.in-Load.name c.as_slice-in-Load.result.now c.in-Load.is c.as_slice-in-Load.ensures c.load.ensures
+    load_tells c.args.self.now.world c.args.self.now.world c.args.directive.now.what c.args.directive.now.pos c.load.result c.in-Load.name c.as_str.result.now c.in-Load.is c.as_str.ensures c.load.ensures
 
 pub returns-in-Phrase-clause-reply : goal.returns-in-Phrase-clause-reply
 returns-in-Phrase-clause-reply c =
@@ -28,6 +28,5 @@ returns-in-Phrase-clause-reply c =
 pub returns-in_default : goal.returns-in_default
 returns-in_default c = record {
   numbers = record { names = refl; phrases = refl; store = grows-none c.args.self.now.world.store };
-  sorted = c.requires.sorted;
   reply = other_tells c.args.self.now.world c.args.directive.now.what c.args.directive.now.pos c.refusal.result c.plain.result (λ n vs e. c.in_default.not-Domain n vs e) (λ ns ps os o e. c.in_default.not-Declare ns ps os o e) (λ n b i e. c.in_default.not-Assert n b i e) (λ b e. c.in_default.not-Load b e) (λ i e. c.in_default.not-Phrase i e) c.plain.ensures.kind c.plain.ensures.args c.refusal.ensures;
 }

@@ -1,11 +1,11 @@
 use Rattle.std.proofs.Common.{rules, ◌≡◌, length}
 use Rattle.ath_syntax.proofs.Growth.{Grows-phrase}
 use Rattle.ath_syntax.proofs.NodeLaws.{phrase_of_new}
-use Rattle.ath_syntax.proofs.Sound.{IsSound-phrase}
+use Rattle.ath_syntax.proofs.Fitting.{NodesFit-phrase}
 use Rattle.ath_syntax.proofs.phrases.Phrases.add.Goals as goal
 
 pub invariant_of-self-2 : goal.invariant_of-self-2
-invariant_of-self-2 c = rw c.in_ok-push.ensures.items (IsSound-phrase _ _ c.self.invariant (rw c.self.view_is c.requires))
+invariant_of-self-2 c = rw c.in_ok-push.ensures.items (NodesFit-phrase _ _ c.self.invariant (rw c.self.view_is c.requires))
 
 pub returns-clause-stands : goal.returns-clause-stands
 returns-clause-stands c =

@@ -1,4 +1,4 @@
-use Rattle.std.proofs.Common.{refl, subst}
+use Rattle.std.proofs.Common.{subst}
 use Rattle.ath_terms.specs.Trees.{term_at}
 use Rattle.ath_trees.specs.WellSorted.{HasSort}
 use Rattle.ath_terms.proofs.store.Store.plain_atom.Goals as goal
@@ -8,7 +8,6 @@ add_sent-requires-clause-kept c = record {
   nodes = c.size-nodes.ensures.same;
   levels = c.depth-levels.ensures.same;
   small = record { nodes = rw (← c.size-nodes.ensures.same) c.size-nodes.ensures.few; levels = rw (← c.depth-levels.ensures.same) c.depth-levels.ensures.few };
-  free = refl;
 }
 
 pub returns-clause-sorted : goal.returns-clause-sorted

@@ -1,19 +1,12 @@
 use Rattle.std.proofs.Common.{arith}
-use Rattle.ath_terms.proofs.StoreLaws.{sents-count, sent-kept}
+use Rattle.ath_terms.proofs.StoreLaws.{sents-count, sent-kept, sent-nodes-few}
 use Rattle.ath_terms.proofs.store.Store.sent_size.Goals as goal
 
 pub index-requires : goal.index-requires
-index-requires c = let e = sents-count c.self.inside.terms.items c.self.inside.sents.items c.args.self.now c.self.view_is c.self.invariant in omega (arith, c.self.inside.sents.ok.0)
+index-requires c = let e = sents-count c.self.inside.terms.items c.self.inside.sents.items c.args.self.now c.self.view_is c.self.invariant.0 in omega (arith, c.self.inside.sents.ok.0)
 
 pub returns-clause-same : goal.returns-clause-same
-returns-clause-same c = rw c.index.ensures (sent-kept c.self.inside.terms.items c.self.inside.sents.items c.args.self.now c.self.view_is c.self.invariant c.args.p.0 c.index.result.now c.requires).nodes
+returns-clause-same c = rw c.index.ensures (sent-kept c.self.inside.terms.items c.self.inside.sents.items c.args.self.now c.self.view_is c.self.invariant.0 c.args.p.0 c.index.result.now c.requires).nodes
 
 pub returns-clause-few : goal.returns-clause-few
-returns-clause-few c =
-    let k = sent-kept c.self.inside.terms.items c.self.inside.sents.items c.args.self.now c.self.view_is c.self.invariant c.args.p.0 c.index.result.now c.requires in
-    let s = k.small.nodes in
-    let e = k.nodes in
-    rw c.index.ensures (omega arith)
-
-pub returns-clause-free : goal.returns-clause-free
-returns-clause-free c = (sent-kept c.self.inside.terms.items c.self.inside.sents.items c.args.self.now c.self.view_is c.self.invariant c.args.p.0 c.index.result.now c.requires).free
+returns-clause-few c = rw c.index.ensures (sent-nodes-few c.self.inside.terms.items c.self.inside.sents.items c.args.self.now c.self.view_is c.self.invariant.0 c.args.p.0 c.index.result.now c.requires)

@@ -3,7 +3,7 @@ use Rattle.ath_terms.proofs.StoreLaws.{terms-count, sort-is}
 use Rattle.ath_terms.proofs.store.Store.sort_of.Goals as goal
 
 pub index-requires : goal.index-requires
-index-requires c = let e = terms-count c.self.inside.terms.items c.self.inside.sents.items c.args.self.now c.self.view_is c.self.invariant in omega (arith, c.self.inside.terms.ok.0)
+index-requires c = let e = terms-count c.self.inside.terms.items c.self.inside.sents.items c.args.self.now c.self.view_is c.self.invariant.0 in omega (arith, c.self.inside.terms.ok.0)
 
 pub returns : goal.returns
-returns c = rw c.index.ensures (sort-is c.self.inside.terms.items c.self.inside.sents.items c.args.self.now c.self.view_is c.self.invariant c.args.t.0 c.index.result.now c.requires)
+returns c = rw c.index.ensures (sort-is c.self.inside.terms.items c.self.inside.sents.items c.args.self.now c.self.view_is c.self.invariant.0 c.args.t.0 c.index.result.now c.requires)

@@ -1,0 +1,13 @@
+pub mod UnifierValid
+pub mod Planned
+pub mod PairLaws
+pub mod ConstructionLaws
+pub mod EquationLaws
+pub mod TermLaws
+pub mod ArgumentLaws
+pub mod ApplicationLaws
+pub mod GroupLaws
+pub mod QuantifierLaws
+pub mod MeasureLaws
+pub mod ConnectiveLaws
+pub mod SortedLaws

@@ -1,0 +1,4 @@
+pub mod Construction
+pub mod Listing
+pub mod Answers
+pub mod Steps

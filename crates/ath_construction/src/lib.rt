@@ -1,0 +1,17 @@
+//! Constructions by the user: what they unify, and what they build.
+#![tactic(auto)]
+
+pub mod application;
+pub mod connectives;
+pub mod equations;
+pub mod pairs;
+pub mod quantifiers;
+pub mod term;
+#[cfg(test)]
+mod tests;
+
+pub use application::app;
+pub use connectives::connective;
+pub use equations::equation;
+pub use quantifiers::quantify;
+pub use term::{ascribe, atom};

@@ -1,0 +1,12 @@
+pub mod StepLaws
+pub mod SentLaws
+pub mod BinderLaws
+pub mod OccurrenceLaws
+pub mod PuttingLaws
+pub mod CaptureLaws
+pub mod CountLaws
+pub mod GivenLaws
+pub mod WithinLaws
+pub mod SentWithin
+pub mod KeptLaws
+pub mod KeepingLaws

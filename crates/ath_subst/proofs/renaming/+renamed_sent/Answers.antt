@@ -1,0 +1,81 @@
+use Rattle.std.proofs.Common.{◌∙◌, sym, ap, arith}
+use Rattle.ath_trees.specs.Renamed.{renamed}
+use Rattle.ath_trees.specs.Substitution.{subst_term}
+use Rattle.ath_trees.specs.Tree.{var, bound}
+use Rattle.ath_trees.proofs.Sorting.{renamed-sorted}
+use Rattle.ath_terms.specs.Trees.{sent_at}
+use Rattle.ath_terms.proofs.Grow.{grows-none, grows-then, term-kept}
+use Rattle.ath_subst.proofs.PuttingLaws.{renaming-small-later, put-var, var-has}
+use Rattle.ath_subst.proofs.SentLaws.{renaming-maps, renaming-keeps, kept-by, sorted-by, conn_node, bound_node, atom_node, equation_node, atom-small, equation-small, renamed-bound, atom-tree, equation-tree, conn-step, conn-tree, conn-below}
+use Rattle.ath_subst.proofs.renaming.+renamed_sent.Goals as goal
+
+pub put_term-requires-clause-small : goal.put_term-requires-clause-small
+put_term-requires-clause-small t c =
+    let a = (atom_node c.args.store.now c.sent.result.now c.in_ok-node.node c.args.p.0 _ c.in_ok-node.ensures c.sent.ensures.tree c.sent.ensures.below c.in-Atom.t c.in-Atom.is) in
+    let m = atom-small c.args.store.now c.args.p.0 _ _ _ c.in-Atom.t a c.sent_size-nodes.ensures.same c.sent_depth-levels.ensures.same c.sent_size-nodes.ensures.few c.sent_depth-levels.ensures.few in
+    renaming-small-later c.args.store.now c.args.store.now c.args.y.now c.args.z.now c.args.by.0 c.in-Atom.t.0 (grows-none c.args.store.now) c.requires.there.0 a.below m.nodes m.levels
+
+pub keep_sent-requires-clause-kept : goal.keep_sent-requires-clause-kept
+keep_sent-requires-clause-kept t c = kept-by (renamed c.args.y.now c.args.z.now) (renaming-keeps c.args.y.now c.args.z.now) (sent_at c.args.store.now.sents c.args.p.0) _ c.sent_size-nodes.result c.sent_depth-levels.result
+    (atom-tree (renamed c.args.y.now c.args.z.now) (subst_term c.args.y.now (var c.args.z.now)) (renaming-maps c.args.y.now c.args.z.now) c.args.store.now c.args.p.0 c.put_term.new.store _ c.in-Atom.t c.in_ok-term-in-Atom.term (atom_node c.args.store.now c.sent.result.now c.in_ok-node.node c.args.p.0 _ c.in_ok-node.ensures c.sent.ensures.tree c.sent.ensures.below c.in-Atom.t c.in-Atom.is) (put-var c.args.store.now c.put_term.new.store c.args.y.now c.args.z.now c.args.by.0 c.in_ok-term-in-Atom.term.0 _ c.in_ok-term-in-Atom.ensures.tree c.requires.there.0))
+    c.sent_size-nodes.ensures.same c.sent_depth-levels.ensures.same c.sent_size-nodes.ensures.few c.sent_depth-levels.ensures.few
+
+pub put_term-requires-in-Eq-clause-small : goal.put_term-requires-in-Eq-clause-small
+put_term-requires-in-Eq-clause-small t c =
+    let a = (equation_node c.args.store.now c.sent.result.now c.in_ok-node.node c.args.p.0 _ c.in_ok-node.ensures c.sent.ensures.tree c.sent.ensures.below c.in-Eq.s c.in-Eq.t c.in-Eq.is) in
+    let m = equation-small c.args.store.now c.args.p.0 _ _ _ c.in-Eq.s c.in-Eq.t a c.sent_size-nodes.ensures.same c.sent_depth-levels.ensures.same c.sent_size-nodes.ensures.few c.sent_depth-levels.ensures.few in
+    renaming-small-later c.args.store.now c.args.store.now c.args.y.now c.args.z.now c.args.by.0 c.in-Eq.s.0 (grows-none c.args.store.now) c.requires.there.0 a.left m.0.nodes m.0.levels
+
+pub put_term-requires-in-Eq-2-clause-small : goal.put_term-requires-in-Eq-2-clause-small
+put_term-requires-in-Eq-2-clause-small t c =
+    let a = (equation_node c.args.store.now c.sent.result.now c.in_ok-node.node c.args.p.0 _ c.in_ok-node.ensures c.sent.ensures.tree c.sent.ensures.below c.in-Eq.s c.in-Eq.t c.in-Eq.is) in
+    let m = equation-small c.args.store.now c.args.p.0 _ _ _ c.in-Eq.s c.in-Eq.t a c.sent_size-nodes.ensures.same c.sent_depth-levels.ensures.same c.sent_size-nodes.ensures.few c.sent_depth-levels.ensures.few in
+    renaming-small-later c.args.store.now c.put_term-in-Eq.new.store c.args.y.now c.args.z.now c.args.by.0 c.in-Eq.t.0 c.in_ok-left-in-Eq.ensures.grows c.requires.there.0 a.right m.1.nodes m.1.levels
+
+pub keep_sent-requires-in-Eq-clause-kept : goal.keep_sent-requires-in-Eq-clause-kept
+keep_sent-requires-in-Eq-clause-kept t c = kept-by (renamed c.args.y.now c.args.z.now) (renaming-keeps c.args.y.now c.args.z.now) (sent_at c.args.store.now.sents c.args.p.0) _ c.sent_size-nodes.result c.sent_depth-levels.result
+    (equation-tree (renamed c.args.y.now c.args.z.now) (subst_term c.args.y.now (var c.args.z.now)) (renaming-maps c.args.y.now c.args.z.now) c.args.store.now c.args.p.0 c.put_term-in-Eq.new.store c.put_term-in-Eq-2.new.store c.in-Eq.s c.in-Eq.t c.in_ok-left-in-Eq.left c.in_ok-right-in-Eq.right (equation_node c.args.store.now c.sent.result.now c.in_ok-node.node c.args.p.0 _ c.in_ok-node.ensures c.sent.ensures.tree c.sent.ensures.below c.in-Eq.s c.in-Eq.t c.in-Eq.is)
+    c.in_ok-left-in-Eq.ensures.grows c.in_ok-right-in-Eq.ensures.grows (put-var c.args.store.now c.put_term-in-Eq.new.store c.args.y.now c.args.z.now c.args.by.0 c.in_ok-left-in-Eq.left.0 _ c.in_ok-left-in-Eq.ensures.tree c.requires.there.0)
+    (put-var c.put_term-in-Eq.new.store c.put_term-in-Eq-2.new.store c.args.y.now c.args.z.now c.args.by.0 c.in_ok-right-in-Eq.right.0 _ c.in_ok-right-in-Eq.ensures.tree (term-kept c.args.store.now c.put_term-in-Eq.new.store c.args.by.0 (var c.args.z.now) c.in_ok-left-in-Eq.ensures.grows c.requires.there.0)))
+    c.sent_size-nodes.ensures.same c.sent_depth-levels.ensures.same c.sent_size-nodes.ensures.few c.sent_depth-levels.ensures.few
+
+pub loop-i-preserved : goal.loop-i-preserved
+loop-i-preserved t c = record {
+  grows = grows-then _ _ _ c.loop-i.invariant.grows c.in_ok-part-in-Conn.ensures.grows;
+  parts = rw c.in_ok-push-in-Conn.ensures.ok (conn-step (renamed c.args.y.now c.args.z.now) (subst_term c.args.y.now (var c.args.z.now)) (renaming-maps c.args.y.now c.args.z.now) c.args.store.now c.args.p.0 c.in-Conn.c c.in-Conn.ids c.as_slice-from.result.now (conn_node c.args.store.now c.sent.result.now c.in_ok-node.node c.args.p.0 _ c.in_ok-node.ensures c.sent.ensures.tree c.sent.ensures.below c.in-Conn.c c.in-Conn.ids c.in-Conn.is) c.as_slice-from.ensures
+      c.loop-i.store c.renamed_sent.new.store c.loop-i.parts c.loop-i.i (record { 0 = 0 }) c.in_ok-part-in-Conn.part c.requires.inside (omega arith) c.loop-i.invariant.grows c.in_ok-part-in-Conn.ensures.grows c.loop-i.invariant.parts c.in_ok-part-in-Conn.ensures.tree);
+  sorted = λ sig h. c.in_ok-part-in-Conn.ensures.sorted sig (c.loop-i.invariant.sorted sig h);
+}
+
+pub keep_sent-requires-in-Conn-clause-below : goal.keep_sent-requires-in-Conn-clause-below
+keep_sent-requires-in-Conn-clause-below t c = conn-below (renamed c.args.y.now c.args.z.now) (subst_term c.args.y.now (var c.args.z.now)) (renaming-maps c.args.y.now c.args.z.now) c.args.store.now c.args.p.0 c.in-Conn.c c.in-Conn.ids c.as_slice-from.result.now (conn_node c.args.store.now c.sent.result.now c.in_ok-node.node c.args.p.0 _ c.in_ok-node.ensures c.sent.ensures.tree c.sent.ensures.below c.in-Conn.c c.in-Conn.ids c.in-Conn.is) c.as_slice-from.ensures c.loop-i.store c.loop-i.parts c.loop-i.i (omega arith) c.loop-i.invariant.parts
+
+pub keep_sent-requires-in-Conn-clause-kept : goal.keep_sent-requires-in-Conn-clause-kept
+keep_sent-requires-in-Conn-clause-kept t c = kept-by (renamed c.args.y.now c.args.z.now) (renaming-keeps c.args.y.now c.args.z.now) (sent_at c.args.store.now.sents c.args.p.0) _ c.sent_size-nodes.result c.sent_depth-levels.result
+    (conn-tree (renamed c.args.y.now c.args.z.now) (subst_term c.args.y.now (var c.args.z.now)) (renaming-maps c.args.y.now c.args.z.now) c.args.store.now c.args.p.0 c.in-Conn.c c.in-Conn.ids c.as_slice-from.result.now (conn_node c.args.store.now c.sent.result.now c.in_ok-node.node c.args.p.0 _ c.in_ok-node.ensures c.sent.ensures.tree c.sent.ensures.below c.in-Conn.c c.in-Conn.ids c.in-Conn.is) c.as_slice-from.ensures c.loop-i.store c.loop-i.parts c.loop-i.i (omega arith) c.loop-i.invariant.parts)
+    c.sent_size-nodes.ensures.same c.sent_depth-levels.ensures.same c.sent_size-nodes.ensures.few c.sent_depth-levels.ensures.few
+
+pub keep_sent-requires-in-Quant-clause-kept : goal.keep_sent-requires-in-Quant-clause-kept
+keep_sent-requires-in-Quant-clause-kept t c = kept-by (renamed c.args.y.now c.args.z.now) (renaming-keeps c.args.y.now c.args.z.now) (sent_at c.args.store.now.sents c.args.p.0) _ c.sent_size-nodes.result c.sent_depth-levels.result
+    (ap (bound c.in-Quant.k c.in-Quant.v) c.in_ok-inner-in-Quant.ensures.tree.1 ∙ sym (renamed-bound c.args.y.now c.args.z.now c.in-Quant.k c.in-Quant.v _ (sym c.is_same_var.ensures ∙ c.if-is_same_var.false)) ∙ ap (renamed c.args.y.now c.args.z.now) (sym (bound_node c.args.store.now c.sent.result.now c.in_ok-node.node c.args.p.0 _ c.in_ok-node.ensures c.sent.ensures.tree c.sent.ensures.below c.in-Quant.k c.in-Quant.v c.in-Quant.body c.in-Quant.is).tree))
+    c.sent_size-nodes.ensures.same c.sent_depth-levels.ensures.same c.sent_size-nodes.ensures.few c.sent_depth-levels.ensures.few
+
+pub returns-in_ok-sent-in-Atom-clause-sorted : goal.returns-in_ok-sent-in-Atom-clause-sorted
+returns-in_ok-sent-in-Atom-clause-sorted t c = λ sig h. c.in_ok-sent-in-Atom.ensures.sorted sig (c.in_ok-term-in-Atom.ensures.sorted sig h c.requires.there.1)
+    (sorted-by sig _ _ (atom-tree (renamed c.args.y.now c.args.z.now) (subst_term c.args.y.now (var c.args.z.now)) (renaming-maps c.args.y.now c.args.z.now) c.args.store.now c.args.p.0 c.put_term.new.store _ c.in-Atom.t c.in_ok-term-in-Atom.term (atom_node c.args.store.now c.sent.result.now c.in_ok-node.node c.args.p.0 _ c.in_ok-node.ensures c.sent.ensures.tree c.sent.ensures.below c.in-Atom.t c.in-Atom.is) (put-var c.args.store.now c.put_term.new.store c.args.y.now c.args.z.now c.args.by.0 c.in_ok-term-in-Atom.term.0 _ c.in_ok-term-in-Atom.ensures.tree c.requires.there.0))
+    (renamed-sorted sig c.args.y.now c.args.z.now (sent_at c.args.store.now.sents c.args.p.0) (var-has sig c.args.store.now c.args.z.now c.args.by.0 _ h c.requires.there) (h.sents c.args.p.0 c.requires.inside)))
+
+pub returns-in_ok-sent-in-Eq-clause-sorted : goal.returns-in_ok-sent-in-Eq-clause-sorted
+returns-in_ok-sent-in-Eq-clause-sorted t c = λ sig h. c.in_ok-sent-in-Eq.ensures.sorted sig (c.in_ok-right-in-Eq.ensures.sorted sig (c.in_ok-left-in-Eq.ensures.sorted sig h c.requires.there.1) (c.in_ok-left-in-Eq.ensures.grows.same_sorts c.args.by.0 c.requires.there.0.0 ∙ c.requires.there.1))
+    (sorted-by sig _ _ (equation-tree (renamed c.args.y.now c.args.z.now) (subst_term c.args.y.now (var c.args.z.now)) (renaming-maps c.args.y.now c.args.z.now) c.args.store.now c.args.p.0 c.put_term-in-Eq.new.store c.put_term-in-Eq-2.new.store c.in-Eq.s c.in-Eq.t c.in_ok-left-in-Eq.left c.in_ok-right-in-Eq.right (equation_node c.args.store.now c.sent.result.now c.in_ok-node.node c.args.p.0 _ c.in_ok-node.ensures c.sent.ensures.tree c.sent.ensures.below c.in-Eq.s c.in-Eq.t c.in-Eq.is)
+    c.in_ok-left-in-Eq.ensures.grows c.in_ok-right-in-Eq.ensures.grows (put-var c.args.store.now c.put_term-in-Eq.new.store c.args.y.now c.args.z.now c.args.by.0 c.in_ok-left-in-Eq.left.0 _ c.in_ok-left-in-Eq.ensures.tree c.requires.there.0)
+    (put-var c.put_term-in-Eq.new.store c.put_term-in-Eq-2.new.store c.args.y.now c.args.z.now c.args.by.0 c.in_ok-right-in-Eq.right.0 _ c.in_ok-right-in-Eq.ensures.tree (term-kept c.args.store.now c.put_term-in-Eq.new.store c.args.by.0 (var c.args.z.now) c.in_ok-left-in-Eq.ensures.grows c.requires.there.0)))
+    (renamed-sorted sig c.args.y.now c.args.z.now (sent_at c.args.store.now.sents c.args.p.0) (var-has sig c.args.store.now c.args.z.now c.args.by.0 _ h c.requires.there) (h.sents c.args.p.0 c.requires.inside)))
+
+pub returns-in_ok-sent-in-Conn-clause-tree : goal.returns-in_ok-sent-in-Conn-clause-tree
+returns-in_ok-sent-in-Conn-clause-tree t c = let r = c.in_ok-sent-in-Conn.ensures.tree in (r.0, r.1 ∙ (conn-tree (renamed c.args.y.now c.args.z.now) (subst_term c.args.y.now (var c.args.z.now)) (renaming-maps c.args.y.now c.args.z.now) c.args.store.now c.args.p.0 c.in-Conn.c c.in-Conn.ids c.as_slice-from.result.now (conn_node c.args.store.now c.sent.result.now c.in_ok-node.node c.args.p.0 _ c.in_ok-node.ensures c.sent.ensures.tree c.sent.ensures.below c.in-Conn.c c.in-Conn.ids c.in-Conn.is) c.as_slice-from.ensures c.loop-i.store c.loop-i.parts c.loop-i.i (omega arith) c.loop-i.invariant.parts))
+
+pub returns-in_ok-sent-in-Conn-clause-sorted : goal.returns-in_ok-sent-in-Conn-clause-sorted
+returns-in_ok-sent-in-Conn-clause-sorted t c = λ sig h. c.in_ok-sent-in-Conn.ensures.sorted sig (c.loop-i.invariant.sorted sig h)
+    (sorted-by sig _ _ (conn-tree (renamed c.args.y.now c.args.z.now) (subst_term c.args.y.now (var c.args.z.now)) (renaming-maps c.args.y.now c.args.z.now) c.args.store.now c.args.p.0 c.in-Conn.c c.in-Conn.ids c.as_slice-from.result.now (conn_node c.args.store.now c.sent.result.now c.in_ok-node.node c.args.p.0 _ c.in_ok-node.ensures c.sent.ensures.tree c.sent.ensures.below c.in-Conn.c c.in-Conn.ids c.in-Conn.is) c.as_slice-from.ensures c.loop-i.store c.loop-i.parts c.loop-i.i (omega arith) c.loop-i.invariant.parts)
+    (renamed-sorted sig c.args.y.now c.args.z.now (sent_at c.args.store.now.sents c.args.p.0) (var-has sig c.args.store.now c.args.z.now c.args.by.0 _ h c.requires.there) (h.sents c.args.p.0 c.requires.inside)))

@@ -1,0 +1,18 @@
+use Rattle.std.proofs.Common.{take}
+use Rattle.ath_sorts.specs.Signature.{Signature}
+use Rattle.ath_terms.specs.Lists.{AreSents}
+use Rattle.ath_terms.specs.SortsIn.{IsSortedIn}
+use Rattle.ath_terms.specs.Trees.{Grows}
+use Rattle.ath_trees.specs.Renamed.{renamed}
+use Rattle.ath_subst.proofs.SentLaws.{sent_images}
+use Rattle.ath_subst.proofs.renaming.+renamed_sent.Given as goal
+
+abbrev pub decreases-renamed_sent : goal.decreases-renamed_sent
+decreases-renamed_sent l = l.p.0
+
+abbrev pub invariant-loop-i : goal.invariant-loop-i
+invariant-loop-i l = record {
+  grows : Grows l.fn.store l.store;
+  parts : AreSents l.store l.parts (sent_images (renamed l.y l.z) l.fn.store (take l.i l.from));
+  sorted : (sig : Signature) → IsSortedIn sig l.fn.store → IsSortedIn sig l.store;
+}

@@ -1,0 +1,101 @@
+use Rattle.std.proofs.Common.{get_or, sym, ◌∙◌, ap, arith}
+use Rattle.ath_terms.specs.Trees.{term_at, sent_at}
+use Rattle.ath_terms.proofs.Grow.{grows-then}
+use Rattle.ath_trees.specs.Substitution.{subst_term, subst_sent}
+use Rattle.ath_trees.specs.Variables.{term_vars}
+use Rattle.ath_trees.proofs.Sorting.{subst-sorted}
+use Rattle.ath_subst.proofs.BinderLaws.{bound-valid}
+use Rattle.ath_subst.proofs.CaptureLaws.{left-tree, open-falls, open-small, open-tree, small-as, same-put, same-put-sent, fit-has}
+use Rattle.ath_subst.proofs.CountLaws.{put_atom, put_part-small}
+use Rattle.ath_subst.proofs.SentLaws.{put-maps, sorted-by, conn_node, bound_node, atom_node, equation_node, atom-tree, equation-tree, conn_part-deep, conn_part-inside, conn-step, conn-tree, conn-below}
+use Rattle.ath_subst.proofs.replacing.+put_sent.Goals as goal
+
+pub put_term-requires-clause-small : goal.put_term-requires-clause-small
+put_term-requires-clause-small t c = small-as (subst_sent c.args.x.now (term_at c.args.store.now.terms c.args.by.0) (sent_at c.args.store.now.sents c.args.p.0)) _ (put_atom c.args.x.now (term_at c.args.store.now.terms c.args.by.0) c.args.store.now c.args.p.0 _ c.in-Atom.t (atom_node c.args.store.now c.sent.result.now c.in_ok-node.node c.args.p.0 _ c.in_ok-node.ensures c.sent.ensures.tree c.sent.ensures.below c.in-Atom.t c.in-Atom.is)) c.requires.small
+
+pub keep_small_sent-requires-clause-small : goal.keep_small_sent-requires-clause-small
+keep_small_sent-requires-clause-small t c = small-as (subst_sent c.args.x.now (term_at c.args.store.now.terms c.args.by.0) (sent_at c.args.store.now.sents c.args.p.0)) _ (sym (atom-tree (subst_sent c.args.x.now (term_at c.args.store.now.terms c.args.by.0)) (subst_term c.args.x.now (term_at c.args.store.now.terms c.args.by.0)) (put-maps c.args.x.now (term_at c.args.store.now.terms c.args.by.0)) c.args.store.now c.args.p.0 c.put_term.new.store _ c.in-Atom.t c.in_ok-term-in-Atom.term (atom_node c.args.store.now c.sent.result.now c.in_ok-node.node c.args.p.0 _ c.in_ok-node.ensures c.sent.ensures.tree c.sent.ensures.below c.in-Atom.t c.in-Atom.is) c.in_ok-term-in-Atom.ensures.tree)) c.requires.small
+
+pub keep_small_sent-requires-in-Eq-clause-small : goal.keep_small_sent-requires-in-Eq-clause-small
+keep_small_sent-requires-in-Eq-clause-small t c = small-as (subst_sent c.args.x.now (term_at c.args.store.now.terms c.args.by.0) (sent_at c.args.store.now.sents c.args.p.0)) _ (sym (equation-tree (subst_sent c.args.x.now (term_at c.args.store.now.terms c.args.by.0)) (subst_term c.args.x.now (term_at c.args.store.now.terms c.args.by.0)) (put-maps c.args.x.now (term_at c.args.store.now.terms c.args.by.0)) c.args.store.now c.args.p.0 c.put_term-in-Eq.new.store c.put_term-in-Eq-2.new.store c.in-Eq.s c.in-Eq.t c.in_ok-left-in-Eq.left c.in_ok-right-in-Eq.right (equation_node c.args.store.now c.sent.result.now c.in_ok-node.node c.args.p.0 _ c.in_ok-node.ensures c.sent.ensures.tree c.sent.ensures.below c.in-Eq.s c.in-Eq.t c.in-Eq.is)
+    c.in_ok-left-in-Eq.ensures.grows c.in_ok-right-in-Eq.ensures.grows c.in_ok-left-in-Eq.ensures.tree
+    (same-put c.put_term-in-Eq-2.new.store c.in_ok-right-in-Eq.right.0 c.args.x.now _ (term_at c.args.store.now.terms c.args.by.0) _ (c.in_ok-left-in-Eq.ensures.grows.same_terms c.args.by.0 c.requires.there) c.in_ok-right-in-Eq.ensures.tree))) c.requires.small
+
+pub put_sent-requires : goal.put_sent-requires
+put_sent-requires t c =
+    let d = conn_part-deep (subst_sent c.args.x.now (term_at c.args.store.now.terms c.args.by.0)) (subst_term c.args.x.now (term_at c.args.store.now.terms c.args.by.0)) (put-maps c.args.x.now (term_at c.args.store.now.terms c.args.by.0)) c.args.store.now c.args.p.0 c.in-Conn.c c.in-Conn.ids c.as_slice-from.result.now (conn_node c.args.store.now c.sent.result.now c.in_ok-node.node c.args.p.0 _ c.in_ok-node.ensures c.sent.ensures.tree c.sent.ensures.below c.in-Conn.c c.in-Conn.ids c.in-Conn.is) c.as_slice-from.ensures c.loop-i.store c.loop-i.i (record { 0 = 0 }) c.requires.inside (omega arith) c.loop-i.invariant.grows in
+    let b = conn_part-inside (subst_sent c.args.x.now (term_at c.args.store.now.terms c.args.by.0)) (subst_term c.args.x.now (term_at c.args.store.now.terms c.args.by.0)) (put-maps c.args.x.now (term_at c.args.store.now.terms c.args.by.0)) c.args.store.now c.args.p.0 c.in-Conn.c c.in-Conn.ids c.as_slice-from.result.now (conn_node c.args.store.now c.sent.result.now c.in_ok-node.node c.args.p.0 _ c.in_ok-node.ensures c.sent.ensures.tree c.sent.ensures.below c.in-Conn.c c.in-Conn.ids c.in-Conn.is) c.as_slice-from.ensures c.loop-i.i (record { 0 = 0 }) (omega arith) in
+    let s = put_part-small c.args.x.now (term_at c.args.store.now.terms c.args.by.0) c.args.store.now c.args.p.0 c.in-Conn.c c.in-Conn.ids c.as_slice-from.result.now (conn_node c.args.store.now c.sent.result.now c.in_ok-node.node c.args.p.0 _ c.in_ok-node.ensures c.sent.ensures.tree c.sent.ensures.below c.in-Conn.c c.in-Conn.ids c.in-Conn.is) c.as_slice-from.ensures c.loop-i.i (record { 0 = 0 }) (omega arith) c.requires.small in
+    let g = c.loop-i.invariant.grows in
+    let inside = c.requires.inside in
+    let there = c.requires.there in
+    let e = sym (c.loop-i.invariant.grows.same_terms c.args.by.0 c.requires.there) in
+    let f = g.same_sents (get_or c.as_slice-from.result.now c.loop-i.i (record { 0 = 0 })).0 (omega (arith, b)) in
+    (omega (arith, c.decreases, d), (omega (arith, g.sents, b), (omega (arith, g.terms), (c.requires.named ∙ ap term_vars e, small-as _ _ (λ i. subst_sent c.args.x.now (e i) (sym f i)) s))))
+
+pub loop-i-preserved : goal.loop-i-preserved
+loop-i-preserved t c = record {
+  grows = grows-then _ _ _ c.loop-i.invariant.grows c.in_ok-part-in-Conn.ensures.grows;
+  parts = rw c.in_ok-push-in-Conn.ensures.ok (conn-step (subst_sent c.args.x.now (term_at c.args.store.now.terms c.args.by.0)) (subst_term c.args.x.now (term_at c.args.store.now.terms c.args.by.0)) (put-maps c.args.x.now (term_at c.args.store.now.terms c.args.by.0)) c.args.store.now c.args.p.0 c.in-Conn.c c.in-Conn.ids c.as_slice-from.result.now (conn_node c.args.store.now c.sent.result.now c.in_ok-node.node c.args.p.0 _ c.in_ok-node.ensures c.sent.ensures.tree c.sent.ensures.below c.in-Conn.c c.in-Conn.ids c.in-Conn.is) c.as_slice-from.ensures
+      c.loop-i.store c.put_sent.new.store c.loop-i.parts c.loop-i.i (record { 0 = 0 }) c.in_ok-part-in-Conn.part c.requires.inside (omega arith) c.loop-i.invariant.grows c.in_ok-part-in-Conn.ensures.grows c.loop-i.invariant.parts
+      (same-put-sent c.put_sent.new.store c.in_ok-part-in-Conn.part.0 c.args.x.now (term_at c.loop-i.store.terms c.args.by.0) (term_at c.args.store.now.terms c.args.by.0) (sent_at c.loop-i.store.sents (get_or c.as_slice-from.result.now c.loop-i.i (record { 0 = 0 })).0) (c.loop-i.invariant.grows.same_terms c.args.by.0 c.requires.there) c.in_ok-part-in-Conn.ensures.tree));
+  sorted = λ sig h fits. c.in_ok-part-in-Conn.ensures.sorted sig (c.loop-i.invariant.sorted sig h fits) (c.loop-i.invariant.grows.same_sorts c.args.by.0 c.requires.there ∙ fits);
+}
+
+pub keep_small_sent-requires-in-Conn-clause-below : goal.keep_small_sent-requires-in-Conn-clause-below
+keep_small_sent-requires-in-Conn-clause-below t c = conn-below (subst_sent c.args.x.now (term_at c.args.store.now.terms c.args.by.0)) (subst_term c.args.x.now (term_at c.args.store.now.terms c.args.by.0)) (put-maps c.args.x.now (term_at c.args.store.now.terms c.args.by.0)) c.args.store.now c.args.p.0 c.in-Conn.c c.in-Conn.ids c.as_slice-from.result.now (conn_node c.args.store.now c.sent.result.now c.in_ok-node.node c.args.p.0 _ c.in_ok-node.ensures c.sent.ensures.tree c.sent.ensures.below c.in-Conn.c c.in-Conn.ids c.in-Conn.is) c.as_slice-from.ensures c.loop-i.store c.loop-i.parts c.loop-i.i (omega arith) c.loop-i.invariant.parts
+
+pub keep_small_sent-requires-in-Conn-clause-small : goal.keep_small_sent-requires-in-Conn-clause-small
+keep_small_sent-requires-in-Conn-clause-small t c = small-as (subst_sent c.args.x.now (term_at c.args.store.now.terms c.args.by.0) (sent_at c.args.store.now.sents c.args.p.0)) _ (sym (conn-tree (subst_sent c.args.x.now (term_at c.args.store.now.terms c.args.by.0)) (subst_term c.args.x.now (term_at c.args.store.now.terms c.args.by.0)) (put-maps c.args.x.now (term_at c.args.store.now.terms c.args.by.0)) c.args.store.now c.args.p.0 c.in-Conn.c c.in-Conn.ids c.as_slice-from.result.now (conn_node c.args.store.now c.sent.result.now c.in_ok-node.node c.args.p.0 _ c.in_ok-node.ensures c.sent.ensures.tree c.sent.ensures.below c.in-Conn.c c.in-Conn.ids c.in-Conn.is) c.as_slice-from.ensures c.loop-i.store c.loop-i.parts c.loop-i.i (omega arith) c.loop-i.invariant.parts)) c.requires.small
+
+pub returns-then-left-clause-tree : goal.returns-then-left-clause-tree
+returns-then-left-clause-tree t c = (c.requires.inside, left-tree c.args.x.now (term_at c.args.store.now.terms c.args.by.0) c.args.store.now c.args.p.0 c.in-Quant.k c.in-Quant.v c.in-Quant.body (bound_node c.args.store.now c.sent.result.now c.in_ok-node.node c.args.p.0 _ c.in_ok-node.ensures c.sent.ensures.tree c.sent.ensures.below c.in-Quant.k c.in-Quant.v c.in-Quant.body c.in-Quant.is) (sym c.in_ok-left-in-Quant.ensures ∙ c.if-left.true))
+
+pub put_sent-requires-in-Quant : goal.put_sent-requires-in-Quant
+put_sent-requires-in-Quant t c =
+    let d = open-falls c.args.x.now (term_at c.args.store.now.terms c.args.by.0) c.args.store.now c.args.p.0 c.in-Quant.k c.in-Quant.v c.in-Quant.body (bound_node c.args.store.now c.sent.result.now c.in_ok-node.node c.args.p.0 _ c.in_ok-node.ensures c.sent.ensures.tree c.sent.ensures.below c.in-Quant.k c.in-Quant.v c.in-Quant.body c.in-Quant.is) c.open_binder.new.store c.in_ok-binder-in-Quant.binder.body.0 c.in_ok-binder-in-Quant.ensures.body in
+    let g = c.in_ok-binder-in-Quant.ensures.grows in
+    let there = c.requires.there in
+    (omega (arith, c.decreases, d), (c.in_ok-binder-in-Quant.ensures.body.0, (omega (arith, g.terms), (c.requires.named ∙ ap term_vars (sym (c.in_ok-binder-in-Quant.ensures.grows.same_terms c.args.by.0 c.requires.there)), open-small c.args.x.now (term_at c.args.store.now.terms c.args.by.0) c.args.store.now c.args.p.0 c.in-Quant.k c.in-Quant.v c.in-Quant.body (bound_node c.args.store.now c.sent.result.now c.in_ok-node.node c.args.p.0 _ c.in_ok-node.ensures c.sent.ensures.tree c.sent.ensures.below c.in-Quant.k c.in-Quant.v c.in-Quant.body c.in-Quant.is) c.open_binder.new.store c.in_ok-binder-in-Quant.binder.body.0 _ (sym c.in_ok-left-in-Quant.ensures ∙ c.if-left.false) c.requires.small (c.in_ok-binder-in-Quant.ensures.grows.same_terms c.args.by.0 c.requires.there) c.in_ok-binder-in-Quant.ensures.body))))
+
+pub keep_small_sent-requires-in-Quant-clause-small : goal.keep_small_sent-requires-in-Quant-clause-small
+keep_small_sent-requires-in-Quant-clause-small t c = small-as (subst_sent c.args.x.now (term_at c.args.store.now.terms c.args.by.0) (sent_at c.args.store.now.sents c.args.p.0)) _ (sym (open-tree c.args.x.now (term_at c.args.store.now.terms c.args.by.0) c.args.store.now c.args.p.0 c.in-Quant.k c.in-Quant.v c.in-Quant.body (bound_node c.args.store.now c.sent.result.now c.in_ok-node.node c.args.p.0 _ c.in_ok-node.ensures c.sent.ensures.tree c.sent.ensures.below c.in-Quant.k c.in-Quant.v c.in-Quant.body c.in-Quant.is) c.open_binder.new.store c.put_sent-in-Quant.new.store c.in_ok-binder-in-Quant.binder.variable c.in_ok-binder-in-Quant.binder.body.0 c.in_ok-inner-in-Quant.inner.0 _ (sym c.in_ok-left-in-Quant.ensures ∙ c.if-left.false) c.in_ok-binder-in-Quant.ensures.variable c.in_ok-binder-in-Quant.ensures.body (c.in_ok-binder-in-Quant.ensures.grows.same_terms c.args.by.0 c.requires.there) c.in_ok-inner-in-Quant.ensures.tree)) c.requires.small
+
+pub returns-in_ok-sent-in-Atom-clause-tree : goal.returns-in_ok-sent-in-Atom-clause-tree
+returns-in_ok-sent-in-Atom-clause-tree t c = let r = c.in_ok-sent-in-Atom.ensures.tree in (r.0, r.1 ∙ (atom-tree (subst_sent c.args.x.now (term_at c.args.store.now.terms c.args.by.0)) (subst_term c.args.x.now (term_at c.args.store.now.terms c.args.by.0)) (put-maps c.args.x.now (term_at c.args.store.now.terms c.args.by.0)) c.args.store.now c.args.p.0 c.put_term.new.store _ c.in-Atom.t c.in_ok-term-in-Atom.term (atom_node c.args.store.now c.sent.result.now c.in_ok-node.node c.args.p.0 _ c.in_ok-node.ensures c.sent.ensures.tree c.sent.ensures.below c.in-Atom.t c.in-Atom.is) c.in_ok-term-in-Atom.ensures.tree))
+
+pub returns-in_ok-sent-in-Atom-clause-sorted : goal.returns-in_ok-sent-in-Atom-clause-sorted
+returns-in_ok-sent-in-Atom-clause-sorted t c = λ sig h fits. c.in_ok-sent-in-Atom.ensures.sorted sig (c.in_ok-term-in-Atom.ensures.sorted sig h fits)
+    (sorted-by sig _ _ (atom-tree (subst_sent c.args.x.now (term_at c.args.store.now.terms c.args.by.0)) (subst_term c.args.x.now (term_at c.args.store.now.terms c.args.by.0)) (put-maps c.args.x.now (term_at c.args.store.now.terms c.args.by.0)) c.args.store.now c.args.p.0 c.put_term.new.store _ c.in-Atom.t c.in_ok-term-in-Atom.term (atom_node c.args.store.now c.sent.result.now c.in_ok-node.node c.args.p.0 _ c.in_ok-node.ensures c.sent.ensures.tree c.sent.ensures.below c.in-Atom.t c.in-Atom.is) c.in_ok-term-in-Atom.ensures.tree)
+    (subst-sorted sig c.args.x.now (term_at c.args.store.now.terms c.args.by.0) (sent_at c.args.store.now.sents c.args.p.0) (fit-has sig c.args.store.now c.args.by.0 _ h c.requires.there fits) (h.sents c.args.p.0 c.requires.inside)))
+
+pub returns-in_ok-sent-in-Eq-clause-tree : goal.returns-in_ok-sent-in-Eq-clause-tree
+returns-in_ok-sent-in-Eq-clause-tree t c = let r = c.in_ok-sent-in-Eq.ensures.tree in (
+  r.0,
+  r.1 ∙ (equation-tree (subst_sent c.args.x.now (term_at c.args.store.now.terms c.args.by.0)) (subst_term c.args.x.now (term_at c.args.store.now.terms c.args.by.0)) (put-maps c.args.x.now (term_at c.args.store.now.terms c.args.by.0)) c.args.store.now c.args.p.0 c.put_term-in-Eq.new.store c.put_term-in-Eq-2.new.store c.in-Eq.s c.in-Eq.t c.in_ok-left-in-Eq.left c.in_ok-right-in-Eq.right (equation_node c.args.store.now c.sent.result.now c.in_ok-node.node c.args.p.0 _ c.in_ok-node.ensures c.sent.ensures.tree c.sent.ensures.below c.in-Eq.s c.in-Eq.t c.in-Eq.is)
+      c.in_ok-left-in-Eq.ensures.grows c.in_ok-right-in-Eq.ensures.grows c.in_ok-left-in-Eq.ensures.tree
+      (same-put c.put_term-in-Eq-2.new.store c.in_ok-right-in-Eq.right.0 c.args.x.now _ (term_at c.args.store.now.terms c.args.by.0) _ (c.in_ok-left-in-Eq.ensures.grows.same_terms c.args.by.0 c.requires.there) c.in_ok-right-in-Eq.ensures.tree)),
+)
+
+pub returns-in_ok-sent-in-Eq-clause-sorted : goal.returns-in_ok-sent-in-Eq-clause-sorted
+returns-in_ok-sent-in-Eq-clause-sorted t c = λ sig h fits. c.in_ok-sent-in-Eq.ensures.sorted sig (c.in_ok-right-in-Eq.ensures.sorted sig (c.in_ok-left-in-Eq.ensures.sorted sig h fits) (c.in_ok-left-in-Eq.ensures.grows.same_sorts c.args.by.0 c.requires.there ∙ fits))
+    (sorted-by sig _ _ (equation-tree (subst_sent c.args.x.now (term_at c.args.store.now.terms c.args.by.0)) (subst_term c.args.x.now (term_at c.args.store.now.terms c.args.by.0)) (put-maps c.args.x.now (term_at c.args.store.now.terms c.args.by.0)) c.args.store.now c.args.p.0 c.put_term-in-Eq.new.store c.put_term-in-Eq-2.new.store c.in-Eq.s c.in-Eq.t c.in_ok-left-in-Eq.left c.in_ok-right-in-Eq.right (equation_node c.args.store.now c.sent.result.now c.in_ok-node.node c.args.p.0 _ c.in_ok-node.ensures c.sent.ensures.tree c.sent.ensures.below c.in-Eq.s c.in-Eq.t c.in-Eq.is)
+    c.in_ok-left-in-Eq.ensures.grows c.in_ok-right-in-Eq.ensures.grows c.in_ok-left-in-Eq.ensures.tree
+    (same-put c.put_term-in-Eq-2.new.store c.in_ok-right-in-Eq.right.0 c.args.x.now _ (term_at c.args.store.now.terms c.args.by.0) _ (c.in_ok-left-in-Eq.ensures.grows.same_terms c.args.by.0 c.requires.there) c.in_ok-right-in-Eq.ensures.tree))
+    (subst-sorted sig c.args.x.now (term_at c.args.store.now.terms c.args.by.0) (sent_at c.args.store.now.sents c.args.p.0) (fit-has sig c.args.store.now c.args.by.0 _ h c.requires.there fits) (h.sents c.args.p.0 c.requires.inside)))
+
+pub returns-in_ok-sent-in-Conn-clause-tree : goal.returns-in_ok-sent-in-Conn-clause-tree
+returns-in_ok-sent-in-Conn-clause-tree t c = let r = c.in_ok-sent-in-Conn.ensures.tree in (r.0, r.1 ∙ (conn-tree (subst_sent c.args.x.now (term_at c.args.store.now.terms c.args.by.0)) (subst_term c.args.x.now (term_at c.args.store.now.terms c.args.by.0)) (put-maps c.args.x.now (term_at c.args.store.now.terms c.args.by.0)) c.args.store.now c.args.p.0 c.in-Conn.c c.in-Conn.ids c.as_slice-from.result.now (conn_node c.args.store.now c.sent.result.now c.in_ok-node.node c.args.p.0 _ c.in_ok-node.ensures c.sent.ensures.tree c.sent.ensures.below c.in-Conn.c c.in-Conn.ids c.in-Conn.is) c.as_slice-from.ensures c.loop-i.store c.loop-i.parts c.loop-i.i (omega arith) c.loop-i.invariant.parts))
+
+pub returns-in_ok-sent-in-Conn-clause-sorted : goal.returns-in_ok-sent-in-Conn-clause-sorted
+returns-in_ok-sent-in-Conn-clause-sorted t c = λ sig h fits. c.in_ok-sent-in-Conn.ensures.sorted sig (c.loop-i.invariant.sorted sig h fits)
+    (sorted-by sig _ _ (conn-tree (subst_sent c.args.x.now (term_at c.args.store.now.terms c.args.by.0)) (subst_term c.args.x.now (term_at c.args.store.now.terms c.args.by.0)) (put-maps c.args.x.now (term_at c.args.store.now.terms c.args.by.0)) c.args.store.now c.args.p.0 c.in-Conn.c c.in-Conn.ids c.as_slice-from.result.now (conn_node c.args.store.now c.sent.result.now c.in_ok-node.node c.args.p.0 _ c.in_ok-node.ensures c.sent.ensures.tree c.sent.ensures.below c.in-Conn.c c.in-Conn.ids c.in-Conn.is) c.as_slice-from.ensures c.loop-i.store c.loop-i.parts c.loop-i.i (omega arith) c.loop-i.invariant.parts)
+    (subst-sorted sig c.args.x.now (term_at c.args.store.now.terms c.args.by.0) (sent_at c.args.store.now.sents c.args.p.0) (fit-has sig c.args.store.now c.args.by.0 _ h c.requires.there fits) (h.sents c.args.p.0 c.requires.inside)))
+
+pub returns-in_ok-sent-in-Quant-clause-tree : goal.returns-in_ok-sent-in-Quant-clause-tree
+returns-in_ok-sent-in-Quant-clause-tree t c = let r = c.in_ok-sent-in-Quant.ensures.tree in (r.0, r.1 ∙ (open-tree c.args.x.now (term_at c.args.store.now.terms c.args.by.0) c.args.store.now c.args.p.0 c.in-Quant.k c.in-Quant.v c.in-Quant.body (bound_node c.args.store.now c.sent.result.now c.in_ok-node.node c.args.p.0 _ c.in_ok-node.ensures c.sent.ensures.tree c.sent.ensures.below c.in-Quant.k c.in-Quant.v c.in-Quant.body c.in-Quant.is) c.open_binder.new.store c.put_sent-in-Quant.new.store c.in_ok-binder-in-Quant.binder.variable c.in_ok-binder-in-Quant.binder.body.0 c.in_ok-inner-in-Quant.inner.0 _ (sym c.in_ok-left-in-Quant.ensures ∙ c.if-left.false) c.in_ok-binder-in-Quant.ensures.variable c.in_ok-binder-in-Quant.ensures.body (c.in_ok-binder-in-Quant.ensures.grows.same_terms c.args.by.0 c.requires.there) c.in_ok-inner-in-Quant.ensures.tree))
+
+pub returns-in_ok-sent-in-Quant-clause-sorted : goal.returns-in_ok-sent-in-Quant-clause-sorted
+returns-in_ok-sent-in-Quant-clause-sorted t c = λ sig h fits. c.in_ok-sent-in-Quant.ensures.sorted sig (c.in_ok-inner-in-Quant.ensures.sorted sig (c.in_ok-binder-in-Quant.ensures.sorted sig h (bound-valid sig c.args.store.now c.args.p.0 c.in-Quant.k c.in-Quant.v c.in-Quant.body (bound_node c.args.store.now c.sent.result.now c.in_ok-node.node c.args.p.0 _ c.in_ok-node.ensures c.sent.ensures.tree c.sent.ensures.below c.in-Quant.k c.in-Quant.v c.in-Quant.body c.in-Quant.is) (h.sents c.args.p.0 c.requires.inside))) (c.in_ok-binder-in-Quant.ensures.grows.same_sorts c.args.by.0 c.requires.there ∙ fits))
+    (sorted-by sig _ _ (open-tree c.args.x.now (term_at c.args.store.now.terms c.args.by.0) c.args.store.now c.args.p.0 c.in-Quant.k c.in-Quant.v c.in-Quant.body (bound_node c.args.store.now c.sent.result.now c.in_ok-node.node c.args.p.0 _ c.in_ok-node.ensures c.sent.ensures.tree c.sent.ensures.below c.in-Quant.k c.in-Quant.v c.in-Quant.body c.in-Quant.is) c.open_binder.new.store c.put_sent-in-Quant.new.store c.in_ok-binder-in-Quant.binder.variable c.in_ok-binder-in-Quant.binder.body.0 c.in_ok-inner-in-Quant.inner.0 _ (sym c.in_ok-left-in-Quant.ensures ∙ c.if-left.false) c.in_ok-binder-in-Quant.ensures.variable c.in_ok-binder-in-Quant.ensures.body (c.in_ok-binder-in-Quant.ensures.grows.same_terms c.args.by.0 c.requires.there) c.in_ok-inner-in-Quant.ensures.tree)
+    (subst-sorted sig c.args.x.now (term_at c.args.store.now.terms c.args.by.0) (sent_at c.args.store.now.sents c.args.p.0) (fit-has sig c.args.store.now c.args.by.0 _ h c.requires.there fits) (h.sents c.args.p.0 c.requires.inside)))

@@ -1,0 +1,19 @@
+use Rattle.std.proofs.Common.{◌≡◌, take}
+use Rattle.ath_sorts.specs.Signature.{Signature}
+use Rattle.ath_terms.specs.Lists.{AreSents}
+use Rattle.ath_terms.specs.SortsIn.{IsSortedIn}
+use Rattle.ath_terms.specs.Trees.{term_at, sort_at, sent_at, Grows}
+use Rattle.ath_trees.specs.Measure.{sent_depth}
+use Rattle.ath_trees.specs.Substitution.{subst_sent}
+use Rattle.ath_subst.proofs.SentLaws.{sent_images}
+use Rattle.ath_subst.proofs.replacing.+put_sent.Given as goal
+
+abbrev pub decreases-put_sent : goal.decreases-put_sent
+decreases-put_sent l = sent_depth (sent_at l.store.now.sents l.p.0)
+
+abbrev pub invariant-loop-i : goal.invariant-loop-i
+invariant-loop-i l = record {
+  grows : Grows l.fn.store l.store;
+  parts : AreSents l.store l.parts (sent_images (subst_sent l.x (term_at l.fn.store.terms l.by.0)) l.fn.store (take l.i l.from));
+  sorted : (sig : Signature) → IsSortedIn sig l.fn.store → sort_at l.fn.store.sorts l.by.0 ≡ l.x.sort → IsSortedIn sig l.store;
+}

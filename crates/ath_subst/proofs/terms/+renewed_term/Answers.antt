@@ -1,0 +1,55 @@
+use Rattle.std.proofs.Common.{◌∙◌, ap, arith}
+use Rattle.ath_sorts.specs.Sorts.{image, apply_to}
+use Rattle.ath_terms.specs.Trees.{term_at}
+use Rattle.ath_terms.proofs.Grow.{grows-then}
+use Rattle.ath_subst.proofs.KeptLaws.{term-kept-under}
+use Rattle.ath_subst.proofs.StepLaws.{images-step, app-tree, var-tree, node_has, terms-below}
+use Rattle.ath_subst.proofs.terms.+renewed_term.Goals as goal
+
+pub keep_term-requires-clause-kept : goal.keep_term-requires-clause-kept
+keep_term-requires-clause-kept t c = term-kept-under (image c.args.subst.now) (term_at c.args.store.now.terms c.args.t.0) _ c.size-nodes.result c.depth-levels.result
+    (var-tree c.args.store.now (image c.args.subst.now) c.term.result.now c.in_ok-node.node c.in-Var.v c.args.t.0 c.in_ok-node.ensures c.in-Var.is c.term.ensures.tree)
+    c.size-nodes.ensures.same c.depth-levels.ensures.same c.size-nodes.ensures.few c.depth-levels.ensures.few
+
+pub loop-i-preserved : goal.loop-i-preserved
+loop-i-preserved t c = record {
+  grows = grows-then _ _ _ c.loop-i.invariant.grows c.in_ok-part-in-App.ensures.grows;
+  parts = rw c.in_ok-push-in-App.ensures.ok (images-step c.args.store.now (image c.args.subst.now) c.term.result.now c.in_ok-node.node c.in-App.symbol c.in-App.sorts c.in-App.args c.as_slice-ids.result.now c.args.t.0 c.in_ok-node.ensures c.in-App.is c.as_slice-ids.ensures
+      c.loop-i.store c.renewed_term.new.store c.loop-i.parts c.loop-i.i (record { 0 = 0 }) c.in_ok-part-in-App.part c.term.ensures.below c.requires (omega arith) c.loop-i.invariant.grows c.in_ok-part-in-App.ensures.grows c.loop-i.invariant.parts c.in_ok-part-in-App.ensures.tree.0);
+  sort = c.loop-i.invariant.sort;
+  sorted = λ sig h ok. c.in_ok-part-in-App.ensures.sorted sig (c.loop-i.invariant.sorted sig h ok) ok;
+}
+
+pub keep_term-requires-in-App-clause-below : goal.keep_term-requires-in-App-clause-below
+keep_term-requires-in-App-clause-below t c = terms-below c.loop-i.store c.loop-i.parts _ c.loop-i.invariant.parts
+
+pub keep_term-requires-in-App-clause-kept : goal.keep_term-requires-in-App-clause-kept
+keep_term-requires-in-App-clause-kept t c = term-kept-under (image c.args.subst.now) (term_at c.args.store.now.terms c.args.t.0) _ c.size-nodes.result c.depth-levels.result
+    (app-tree c.args.store.now (image c.args.subst.now) c.term.result.now c.in_ok-node.node c.in-App.symbol c.in-App.sorts c.in-App.args c.as_slice-ids.result.now c.args.t.0 c.in_ok-node.ensures c.in-App.is c.as_slice-ids.ensures
+    c.loop-i.store c.loop-i.parts c.loop-i.i c.term.ensures.tree (omega arith) c.loop-i.invariant.parts)
+    c.size-nodes.ensures.same c.depth-levels.ensures.same c.size-nodes.ensures.few c.depth-levels.ensures.few
+
+pub returns-in_ok-term-in-Var-clause-tree : goal.returns-in_ok-term-in-Var-clause-tree
+returns-in_ok-term-in-Var-clause-tree t c =
+    let r = c.in_ok-term-in-Var.ensures.tree in
+    ((r.0.0, r.0.1 ∙ var-tree c.args.store.now (image c.args.subst.now) c.term.result.now c.in_ok-node.node c.in-Var.v c.args.t.0 c.in_ok-node.ensures c.in-Var.is c.term.ensures.tree), r.1 ∙ c.in_ok-sort.ensures ∙ ap (apply_to (image c.args.subst.now)) c.sort_of.ensures)
+
+pub returns-in_ok-term-in-Var-clause-sorted : goal.returns-in_ok-term-in-Var-clause-sorted
+returns-in_ok-term-in-Var-clause-sorted t c = λ sig h ok. c.in_ok-term-in-Var.ensures.sorted sig h
+    (node_has sig c.args.store.now (image c.args.subst.now) c.args.t.0 _ c.in_ok-sort.sort h ok c.requires
+    (var-tree c.args.store.now (image c.args.subst.now) c.term.result.now c.in_ok-node.node c.in-Var.v c.args.t.0 c.in_ok-node.ensures c.in-Var.is c.term.ensures.tree)
+    (c.in_ok-sort.ensures ∙ ap (apply_to (image c.args.subst.now)) c.sort_of.ensures))
+
+pub returns-in_ok-term-in-App-clause-tree : goal.returns-in_ok-term-in-App-clause-tree
+returns-in_ok-term-in-App-clause-tree t c =
+    let r = c.in_ok-term-in-App.ensures.tree in
+    let tree = app-tree c.args.store.now (image c.args.subst.now) c.term.result.now c.in_ok-node.node c.in-App.symbol c.in-App.sorts c.in-App.args c.as_slice-ids.result.now c.args.t.0 c.in_ok-node.ensures c.in-App.is c.as_slice-ids.ensures
+    c.loop-i.store c.loop-i.parts c.loop-i.i c.term.ensures.tree (omega arith) c.loop-i.invariant.parts in
+    ((r.0.0, r.0.1 ∙ tree), r.1 ∙ c.loop-i.invariant.sort)
+
+pub returns-in_ok-term-in-App-clause-sorted : goal.returns-in_ok-term-in-App-clause-sorted
+returns-in_ok-term-in-App-clause-sorted t c = λ sig h ok. c.in_ok-term-in-App.ensures.sorted sig (c.loop-i.invariant.sorted sig h ok)
+    (node_has sig c.args.store.now (image c.args.subst.now) c.args.t.0 _ _ h ok c.requires
+    (app-tree c.args.store.now (image c.args.subst.now) c.term.result.now c.in_ok-node.node c.in-App.symbol c.in-App.sorts c.in-App.args c.as_slice-ids.result.now c.args.t.0 c.in_ok-node.ensures c.in-App.is c.as_slice-ids.ensures
+    c.loop-i.store c.loop-i.parts c.loop-i.i c.term.ensures.tree (omega arith) c.loop-i.invariant.parts)
+    c.loop-i.invariant.sort)

@@ -1,0 +1,5 @@
+pub mod Under
+pub mod Binders
+pub mod Captures
+pub mod Limited
+pub mod Given

@@ -1,0 +1,191 @@
+// The examples of docs/ERRORS.md; tools/examples.py writes this file.
+
+use crate::reports::expect_lines;
+use ath_session::Status;
+use std::alloc::{AllocError, Global};
+use std::test::Fail;
+
+/// An example: the parts of its file, each with how often it stands there, and what is printed.
+type Example = (&'static [(&'static [u8], u64)], &'static str);
+
+/// The text that these parts make.
+fn text_of(alloc: Global, parts: &[(&[u8], u64)]) -> Result<Vec<u8>, AllocError> {
+    let mut text = Vec::new(alloc);
+    for (part, times) in parts {
+        for _ in 0..*times {
+            text.extend_from_slice(part)?;
+        }
+    }
+    Ok(text)
+}
+
+const EXAMPLES: [Example; 29] = [
+    // BadChar
+    (
+        &[(b"declare A: Boolean\nA \\ A\n", 1)],
+        "Symbols: A\nTerm: A\nError: \"x.ath\":2:3: BadChar\n",
+    ),
+    // BadUtf8
+    (&[(b"# caf\xC3\n", 1)], "Error: \"x.ath\":1:6: BadUtf8\n"),
+    // OpenString
+    (
+        &[(b"declare A: Boolean\nload \"a.ath\n", 1)],
+        "Symbols: A\nError: \"x.ath\":2:6: OpenString\n",
+    ),
+    // NameTooLong
+    (
+        &[(b"declare ", 1), (b"a", 201), (b": Boolean\n", 1)],
+        "Error: \"x.ath\":1:9: NameTooLong\n",
+    ),
+    // Unexpected
+    (
+        &[(b"declare A: Boolean\n(assert A))\n", 1)],
+        "Symbols: A\nAssertion: A\nError: \"x.ath\":2:11: Unexpected\n",
+    ),
+    // Unclosed
+    (
+        &[(b"declare A: Boolean\n(assert (and A A)\n", 1)],
+        "Symbols: A\nError: \"x.ath\":3:1: Unclosed\n",
+    ),
+    // KindMix
+    (
+        &[(b"declare A: Boolean\n(not (!claim A))\n", 1)],
+        "Symbols: A\nError: \"x.ath\":2:7: KindMix\n",
+    ),
+    // TooDeep, of a text
+    (
+        &[
+            (b"declare A: Boolean\n", 1),
+            (b"(not ", 501),
+            (b"A", 1),
+            (b")", 501),
+            (b"\n", 1),
+        ],
+        "Symbols: A\nError: \"x.ath\":2:2501: TooDeep\n",
+    ),
+    // NotBuilt
+    (
+        &[(b"define x := true\n", 1)],
+        "Error: \"x.ath\":1:1: NotBuilt\n",
+    ),
+    // Redeclared
+    (
+        &[(b"declare A: Boolean\ndeclare B, A: Boolean\n", 1)],
+        "Symbols: A\nError: \"x.ath\":2:1: Redeclared A\n",
+    ),
+    // UnknownSort
+    (
+        &[(b"declare zero: N\ndeclare f: ('T) ['S] -> 'T\n", 1)],
+        "Error: \"x.ath\":1:1: UnknownSort N\nError: \"x.ath\":2:1: UnknownSort 'S\n",
+    ),
+    // Arity
+    (
+        &[(b"domain N\ndomain (List 'T)\ndeclare l: (List N N)\n", 1)],
+        "Domain: N\nDomain: List\nError: \"x.ath\":3:1: Arity List\n",
+    ),
+    // LooseParam
+    (
+        &[(b"declare A: ('T) Boolean\n", 1)],
+        "Error: \"x.ath\":1:1: LooseParam 'T\n",
+    ),
+    // TooWide
+    (
+        &[
+            (b"domain N\ndeclare f: [", 1),
+            (b"N ", 65),
+            (b"] -> N\n", 1),
+        ],
+        "Domain: N\nError: \"x.ath\":2:1: TooWide f\n",
+    ),
+    // SortTooLarge
+    (
+        &[
+            (b"domain N\ndomain (List 'T)\ndeclare x: ", 1),
+            (b"(List ", 64),
+            (b"N", 1),
+            (b")", 64),
+            (b"\n", 1),
+        ],
+        "Domain: N\nDomain: List\nError: \"x.ath\":3:1: SortTooLarge\n",
+    ),
+    // Unbound
+    (&[(b"assert A\n", 1)], "Error: \"x.ath\":1:8: Unbound A\n"),
+    // ArgCount
+    (
+        &[(b"declare A: Boolean\n(if A)\n", 1)],
+        "Symbols: A\nError: \"x.ath\":2:1: ArgCount 2 1\n",
+    ),
+    // WrongKind
+    (
+        &[(b"declare f: [Boolean] -> Boolean\n(f not)\n", 1)],
+        "Symbols: f\nError: \"x.ath\":2:1: WrongKind 1\n",
+    ),
+    // SortClash
+    (
+        &[(b"domain N\ndeclare zero: N\n(= zero true)\n", 1)],
+        "Domain: N\nSymbols: zero\nError: \"x.ath\":3:1: SortClash N Boolean\n",
+    ),
+    // NotBoolean
+    (
+        &[(b"domain N\ndeclare zero: N\n(and zero true)\n", 1)],
+        "Domain: N\nSymbols: zero\nError: \"x.ath\":3:1: NotBoolean zero\n",
+    ),
+    // NotApplicable
+    (
+        &[(b"declare A: Boolean\n(A true)\n", 1)],
+        "Symbols: A\nError: \"x.ath\":2:1: NotApplicable\n",
+    ),
+    // NotSentence
+    (
+        &[(b"domain N\nassert ?x:N\n", 1)],
+        "Domain: N\nError: \"x.ath\":2:8: NotSentence\n",
+    ),
+    // TooLarge
+    (
+        &[
+            (b"declare A: Boolean\n(and", 1),
+            (b" A", 50001),
+            (b")\n", 1),
+        ],
+        "Symbols: A\nError: \"x.ath\":2:1: TooLarge 100001\n",
+    ),
+    // TooDeep, of a sentence
+    (
+        &[(b"declare A: Boolean\n(and", 1), (b" A", 2001), (b")\n", 1)],
+        "Symbols: A\nError: \"x.ath\":2:1: TooDeep 2001\n",
+    ),
+    // NotInBase
+    (
+        &[(b"declare A: Boolean\n(!claim A)\n", 1)],
+        "Symbols: A\nError: \"x.ath\":2:1: NotInBase A\n",
+    ),
+    // WrongShape
+    (
+        &[(b"declare A, B: Boolean\n(!mp A A)\n(!mp (if A B) B)\n", 1)],
+        "Symbols: A, B\nError: \"x.ath\":2:1: WrongShape 1\nError: \"x.ath\":3:1: WrongShape 2\n",
+    ),
+    // NotMethod
+    (
+        &[(b"declare mp: Boolean\n(!mp true)\n", 1)],
+        "Symbols: mp\nError: \"x.ath\":2:1: NotMethod\n",
+    ),
+    // TooManyLoads
+    (
+        &[(b"load \"x.ath\"\n", 1)],
+        "Error: \"x.ath\":1:1: TooManyLoads\n",
+    ),
+    // FileTooLong
+    (
+        &[(b"#", 4194305), (b"\n", 1)],
+        "Error: \"x.ath\":1:1: FileTooLong\n",
+    ),
+];
+
+#[test]
+fn the_examples_of_errors(rt: HostRuntime) -> Result<(), Fail> {
+    for (parts, lines) in EXAMPLES {
+        let text = text_of(rt.alloc(), parts)?;
+        expect_lines(&rt, text.as_slice(), lines, Status::Errors)?;
+    }
+    Ok(())
+}

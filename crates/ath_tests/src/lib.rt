@@ -1,0 +1,10 @@
+//! Tests of public calls of several crates. They stand here, and not in those crates, because a crate that has tests is proved
+//! twice: without them, and with them.
+#![tactic(auto)]
+
+#[cfg(test)]
+mod declarations;
+#[cfg(test)]
+mod examples;
+#[cfg(test)]
+mod reports;

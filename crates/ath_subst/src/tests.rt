@@ -134,6 +134,20 @@ fn closing_takes_the_least_index(rt: HostRuntime) -> Result<(), Fail> {
 }
 
 #[test]
+fn a_term_takes_a_variables_place(rt: HostRuntime) -> Result<(), Fail> {
+    let alloc = rt.alloc();
+    let mut store = Store::new(alloc);
+    let x = variable(alloc, &mut store, X, 0, 1)?;
+    let y = variable(alloc, &mut store, Y, 0, 1)?;
+    let put = subst_term(alloc, &mut store, x, &named(X, 0, 1), y)?;
+    match store.term(put) {
+        TermNode::Var(v) => assert_eq!(rt; v.name, Y),
+        TermNode::App(_, _, _) => return Err("no variable".into()),
+    }
+    Ok(())
+}
+
+#[test]
 fn a_large_result_is_refused(rt: HostRuntime) -> Result<(), Fail> {
     let alloc = rt.alloc();
     let mut store = Store::new(alloc);

@@ -11,9 +11,10 @@ use Rattle.ath_sorts.proofs.SortLaws.{sort_induction}
 use Rattle.ath_sorts.specs.Signature.{Signature, arity_of}
 use Rattle.ath_trees.specs.Tree.{Term, Terms, Sent, atom, equal, negated, joined, bound}
 use Rattle.ath_trees.specs.WellSorted.{has_arity, valid_step, is_valid_sort, HasSort, var_has, app_has, HaveSorts, none_has, more_has, IsWellSorted, AreWellSorted}
-use Rattle.ath_calculus.specs.Derives.{Derives, axiom_of, if_elim}
+use Rattle.ath_calculus.specs.Derives.{Derives, axiom_of, if_elim, alpha}
 use Rattle.ath_calculus.specs.Laws.{Extends, AreAmong}
 use Rattle.ath_calculus.specs.Theory.{Theory}
+use Rattle.ath_calculus.proofs.AlphaSorted.{alpha-sorted}
 
 both : (a b : Bool) → a && b ≡ true → (a ≡ true) × (b ≡ true)
 both true b e = (refl, e)
@@ -81,7 +82,9 @@ module _ (old new : Theory) (grown : Extends old new) where
   pub derivation_kept : (fewer others : List Sent) → AreAmong fewer others → {hyps : List Sent} {p : Sent} → Derives old fewer hyps p → Derives new others hyps p
   derivation_kept fewer others among (axiom_of {hyps} {p} h w i) = axiom_of (sents_kept hyps h) (sent_kept p w) (among p i)
   derivation_kept fewer others among (if_elim d e) = if_elim (derivation_kept fewer others among d) (derivation_kept fewer others among e)
+  derivation_kept fewer others among (alpha e d) = alpha e (derivation_kept fewer others among d)
 
 pub well_sorted : {th : Theory} {asserted hyps : List Sent} {p : Sent} → Derives th asserted hyps p → IsWellSorted th.signature p
 well_sorted (axiom_of h w i) = w
 well_sorted (if_elim d e) = (well_sorted d).1
+well_sorted {th} (alpha {hyps} {p} {q} e d) = alpha-sorted th.signature p q e (well_sorted d)

@@ -1,1 +1,2 @@
+pub mod AlphaSorted
 pub mod Grown

@@ -1,8 +1,8 @@
 -- The entries of a base, from the newest.
-use Rattle.std.proofs.Common.{◌≡◌, ◌↔◌, ◌<◌, ◌≤◌, ◌-◌, ℕ, suc, Bool, true, false, List, [], ◌∷◌, ◌++◌, length, take, get_or, Some, if◌then◌else◌, refl, sym, ◌∙◌, ap, arith}
+use Rattle.std.proofs.Common.{◌≡◌, ◌<◌, ◌≤◌, ◌-◌, ℕ, suc, Bool, true, false, List, [], ◌∷◌, ◌++◌, length, take, get_or, Some, if◌then◌else◌, refl, sym, ◌∙◌, ap, arith}
 use Rattle.ath_terms.specs.Trees.{Trees, sent_at, Grows}
+use Rattle.ath_trees.specs.Instance.{is_alpha_equal}
 use Rattle.ath_trees.specs.Tree.{Sent}
-use Rattle.ath_trees.proofs.SameLaws.{same_sent_is}
 use Rattle.ath_base.specs.declared.entry.Entry as code
 use Rattle.ath_base.specs.Base.{Entry, holds}
 use Rattle.ath_base.specs.Stands.{entry_at, entries_of, AreStored}
@@ -18,15 +18,15 @@ module _ (s : Trees) (es : List code.Entry) (p : Sent) (i : ℕ) (d : code.Entry
   front : entries_of s (take (suc i) es) ≡ entry_at s (get_or es i d) ∷ entries_of s (take i es)
   front = ap (entries_of s) (take-suc es i d h) ∙ entries_last s (take i es) (get_or es i d)
 
-  here : (b : Bool) → (b ≡ true) ↔ (sent_at s.sents (get_or es i d).sentence.0 ≡ p) → holds (entries_of s (take (suc i) es)) p ≡ (if b then Some (entry_at s (get_or es i d)) else holds (entries_of s (take i es)) p)
+  here : (b : Bool) → b ≡ is_alpha_equal (sent_at s.sents (get_or es i d).sentence.0) p → holds (entries_of s (take (suc i) es)) p ≡ (if b then Some (entry_at s (get_or es i d)) else holds (entries_of s (take i es)) p)
   here b same =
       ap (λ (l : List Entry). holds l p) front
-      ∙ ap (λ t. if t then Some (entry_at s (get_or es i d)) else holds (entries_of s (take i es)) p) (sym (same_sent_is b (sent_at s.sents (get_or es i d).sentence.0) p same))
+      ∙ ap (λ t. if t then Some (entry_at s (get_or es i d)) else holds (entries_of s (take i es)) p) (sym same)
 
-  pub found_here : (b : Bool) → (b ≡ true) ↔ (sent_at s.sents (get_or es i d).sentence.0 ≡ p) → b ≡ true → Some (entry_at s (get_or es i d)) ≡ holds (entries_of s (take (suc i) es)) p
+  pub found_here : (b : Bool) → b ≡ is_alpha_equal (sent_at s.sents (get_or es i d).sentence.0) p → b ≡ true → Some (entry_at s (get_or es i d)) ≡ holds (entries_of s (take (suc i) es)) p
   found_here b same e = sym (here b same ∙ rw e refl)
 
-  pub not_here : (b : Bool) → (b ≡ true) ↔ (sent_at s.sents (get_or es i d).sentence.0 ≡ p) → b ≡ false → holds (entries_of s (take (suc i) es)) p ≡ holds (entries_of s (take i es)) p
+  pub not_here : (b : Bool) → b ≡ is_alpha_equal (sent_at s.sents (get_or es i d).sentence.0) p → b ≡ false → holds (entries_of s (take (suc i) es)) p ≡ holds (entries_of s (take i es)) p
   not_here b same e = here b same ∙ rw e refl
 
 -- the last entry of those that are left is looked at
@@ -40,10 +40,10 @@ module _ (s : Trees) (es all : List code.Entry) (p : Sent) (left : ℕ) (d : cod
   from_last : holds (entries_of s es) p ≡ holds (entries_of s (take (suc (left - 1)) es)) p
   from_last = so_far ∙ ap (λ (n : ℕ). holds (entries_of s (take n es)) p) (sym last)
 
-  pub answer_found : (b : Bool) → (b ≡ true) ↔ (sent_at s.sents (get_or es (left - 1) d).sentence.0 ≡ p) → b ≡ true → Some (entry_at s (get_or es (left - 1) d)) ≡ holds (entries_of s all) p
+  pub answer_found : (b : Bool) → b ≡ is_alpha_equal (sent_at s.sents (get_or es (left - 1) d).sentence.0) p → b ≡ true → Some (entry_at s (get_or es (left - 1) d)) ≡ holds (entries_of s all) p
   answer_found b same e = found_here s es p (left - 1) d inside b same e ∙ sym from_last ∙ ap (λ (l : List code.Entry). holds (entries_of s l) p) whole
 
-  pub still_left : (b : Bool) → (b ≡ true) ↔ (sent_at s.sents (get_or es (left - 1) d).sentence.0 ≡ p) → b ≡ false → holds (entries_of s es) p ≡ holds (entries_of s (take (left - 1) es)) p
+  pub still_left : (b : Bool) → b ≡ is_alpha_equal (sent_at s.sents (get_or es (left - 1) d).sentence.0) p → b ≡ false → holds (entries_of s es) p ≡ holds (entries_of s (take (left - 1) es)) p
   still_left b same e = from_last ∙ not_here s es p (left - 1) d inside b same e
 
 -- ---- in a store that grows

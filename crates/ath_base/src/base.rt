@@ -6,8 +6,8 @@ ghost use Rattle.ath_base.specs.Base.{holds};
 ghost use Rattle.ath_base.specs.Stands.{entry_at, entries_of, AreStored};
 
 use crate::entry::{Entry, Origin};
+use ath_alpha::is_alpha_equal;
 use ath_terms::Store;
-use ath_terms::equality::is_same_sent;
 use ath_trees::SentId;
 use std::alloc::{AllocError, Global};
 
@@ -36,7 +36,8 @@ impl Base {
         Ok(())
     }
 
-    /// The newest entry by which a sentence holds; none exactly where it doesn't hold.
+    /// The newest entry by which a sentence holds, up to the names and indices of bound variables; none exactly where it
+    /// doesn't hold.
     pub fn holds(&self, store: &Store, p: SentId) -> Option<Entry>
         requires entries { AreStored store.now self.now.entries.items }
         requires sentence { p.0 < length store.now.sents }
@@ -47,7 +48,7 @@ impl Base {
         while left > 0 {
             left -= 1;
             let entry = entries[left];
-            if is_same_sent(store, entry.sentence, p) {
+            if is_alpha_equal(store, entry.sentence, p) {
                 return Some(entry);
             }
         }

@@ -1,14 +1,13 @@
 -- What modus ponens answers.
 use Rattle.std.specs.Prelude.{is_some}
 use Rattle.std.proofs.lemmas.Grind.{common_steps}
-use Rattle.std.proofs.Common.{◌≡◌, ◌==◌, ◌↔◌, ℕ, Bool, true, false, List, Option, Some, None, refl, sym, ◌∙◌, subst, arith}
+use Rattle.std.proofs.Common.{◌≡◌, ◌==◌, ℕ, Bool, true, false, List, Option, Some, None, refl, sym, ◌∙◌, subst, arith}
 use Rattle.ath_syntax.specs.declared.place.Pos.{Pos}
 use Rattle.ath_trees.specs.declared.node.Binary.TheVariants.{If}
 use Rattle.ath_trees.specs.Tree.{Sent, joined}
 use Rattle.ath_terms.specs.Trees.{Trees}
 use Rattle.ath_terms.specs.declared.fresh.Fresh.{Fresh}
-use Rattle.ath_trees.specs.Same.{same_sent}
-use Rattle.ath_trees.proofs.SameLaws.{same_sent_is}
+use Rattle.ath_trees.specs.Instance.{is_alpha_equal}
 use Rattle.ath_eval.specs.declared.world.Outcome as code
 use Rattle.ath_env.specs.Values.{Value}
 use Rattle.ath_base.specs.Base.{Entry, holds}
@@ -25,13 +24,13 @@ pub not_held : (o : Option Entry) (p : Sent) (go : Left → Outcome) (at : Pos) 
 not_held None p go at h = refl
 not_held (Some e) p go at h = cc
 
-module _ (base : List Entry) (p a b q : Sent) (at : Pos) (t : Bool) (same : (t ≡ true) ↔ (q ≡ a)) where
+module _ (base : List Entry) (p a b q : Sent) (at : Pos) (t : Bool) (same : t ≡ is_alpha_equal q a) where
   pub other_premise : t ≡ false → detached base p a b q at ≡ wrong_shape 2 at
-  other_premise e = let f : same_sent q a ≡ false = sym (same_sent_is t q a same) ∙ e in rw f refl
+  other_premise e = let f : is_alpha_equal q a ≡ false = sym same ∙ e in rw f refl
 
   module _ (e : t ≡ true) where
     same-premise : detached base p a b q at ≡ if_held (holds base p) p (if_held (holds base q) q (concludes b) at) at
-    same-premise = let f : same_sent q a ≡ true = sym (same_sent_is t q a same) ∙ e in rw f refl
+    same-premise = let f : is_alpha_equal q a ≡ true = sym same ∙ e in rw f refl
 
     pub no_implication : is_some (holds base p) ≡ false → detached base p a b q at ≡ not_in_base p at
     no_implication h = same-premise ∙ not_held (holds base p) p (if_held (holds base q) q (concludes b) at) at h

@@ -20,8 +20,9 @@ use Rattle.ath_trees.specs.declared.node.Binary.TheVariants.{If}
 use Rattle.ath_trees.specs.SortsIn.{sort_in}
 use Rattle.ath_construction.specs.Construction.{wanted, takes, Built, builds, refuses, made_app, made_equation, made_ascription}
 use Rattle.ath_trees.specs.Tree.{Term, var, Sent, joined}
-use Rattle.ath_trees.specs.Same.{same_sent}
-use Rattle.ath_trees.proofs.SameLaws.{same_sent-true}
+use Rattle.ath_trees.specs.Instance.{is_alpha_equal}
+use Rattle.ath_trees.specs.Nameless.{AlphaEqual}
+use Rattle.ath_trees.proofs.InstanceLaws.{alpha_told}
 use Rattle.ath_calculus.specs.Derives.{IsAmong}
 use Rattle.ath_env.specs.Values.{Value, a_term, a_sentence, a_symbol, a_connective, a_quantifier, a_back, a_method, term_of, sentence_of, value_of}
 use Rattle.ath_env.specs.LookUp.{looked_up}
@@ -54,6 +55,7 @@ pub record IsKept (c : Context) (env : Environment) (P : Value → Type 0) (Q : 
   pub equates : (v w : Value) (s t : Term) (x : Sent) → P v → P w → term_of v ≡ Some s → term_of w ≡ Some t → made_equation c.theory.signature s t ≡ builds x → P (a_sentence x)
   pub connects : (k : Conn) (vs : List Value) (xs : List Part) (x : Sent) → AllByRecursion P vs → kinds_of part_of 1 vs ≡ all_are xs → connective_of c.theory.signature k (sentences_made c.theory.signature xs) ≡ builds x → P (a_sentence x)
   pub held : (p : Sent) → IsAmong p (sentences env.base) → Q p
+  pub renames : (p q : Sent) → AlphaEqual p q → Q p → Q q
   pub detaches : (p q : Sent) → Q (joined If p q) → Q p → Q q
 
 abbrev pub IsNotSpent : Outcome → Type 0
@@ -112,13 +114,16 @@ fails-not-spent place why left at last e = cc
 same_number : (m n : ℕ) → (m == n) ≡ true → m ≡ n
 same_number m n e = grind (arith, common_steps)
 
-in-base : (base : List Entry) (p : Sent) (e : Entry) → holds base p ≡ Some e → IsAmong p (sentences base)
+in-base : (base : List Entry) (p : Sent) (e : Entry) → holds base p ≡ Some e → IsAmong e.sentence (sentences base) × AlphaEqual e.sentence p
 in-base [] p e h = absurd (cc)
-in-base (d ∷ base) p e h = go (same_sent d.sentence p) (in-base base p e) refl h
+in-base (d ∷ base) p e h = go (is_alpha_equal d.sentence p) (in-base base p e) refl h
   where
-    go : (b : Bool) → (holds base p ≡ Some e → IsAmong p (sentences base)) → same_sent d.sentence p ≡ b → (if b then Some d else holds base p) ≡ Some e → IsAmong p (d.sentence ∷ sentences base)
-    go true rec f g = inl (sym (same_sent-true d.sentence p f))
-    go false rec f g = inr (rec g)
+    abbrev IsHeld : Entry → List Sent → Type 0
+    IsHeld e ps = IsAmong e.sentence ps × AlphaEqual e.sentence p
+
+    go : (b : Bool) → (holds base p ≡ Some e → IsHeld e (sentences base)) → is_alpha_equal d.sentence p ≡ b → (if b then Some d else holds base p) ≡ Some e → IsHeld e (d.sentence ∷ sentences base)
+    go true rec f g = let k : d ≡ e = cc in subst (λ (x : Entry). IsHeld x (d.sentence ∷ sentences base)) k (inl refl, (alpha_told d.sentence p).0 f)
+    go false rec f g = let r = rec g in (inr r.0, r.1)
 
 all-last : (P : Value → Type 0) (vs : List Value) (v : Value) → AllByRecursion P vs → P v → AllByRecursion P (vs ++ v ∷ [])
 all-last P [] v h p = (p, tt)
@@ -251,7 +256,7 @@ module _ (c : Context) (env : Environment) (P : Value → Type 0) (Q : Sent → 
   -- ---- methods
   -- where the base holds a sentence
   if_held-regular : (p : Sent) (go : Left → Outcome) (at : Pos) (fresh : Fresh) → (Q p → Regular fresh (λ n. go (left_of n fresh))) → (o : Option Entry) → holds env.base p ≡ o → Regular fresh (λ n. if_held o p go at (left_of n fresh))
-  if_held-regular p go at fresh h (Some e) is = h (closed.held p (in-base env.base p e is))
+  if_held-regular p go at fresh h (Some e) is = let i = in-base env.base p e is in h (closed.renames e.sentence p i.1 (closed.held e.sentence i.0))
   if_held-regular p go at fresh h None is = error-regular fresh
 
   claim-regular : (o : Option Sent) (at : Pos) (fresh : Fresh) → Regular fresh (λ n. claim env.base o at (left_of n fresh))
@@ -259,12 +264,12 @@ module _ (c : Context) (env : Environment) (P : Value → Type 0) (Q : Sent → 
   claim-regular (Some p) at fresh = if_held-regular p (concludes p) at fresh (λ q. sentence-regular p fresh q) (holds env.base p) refl
 
   detached-regular : (a b q : Sent) (at : Pos) (fresh : Fresh) → Regular fresh (λ n. detached env.base (joined If a b) a b q at (left_of n fresh))
-  detached-regular a b q at fresh = go (same_sent q a) refl
+  detached-regular a b q at fresh = go (is_alpha_equal q a) refl
     where
-      go : (s : Bool) → same_sent q a ≡ s → Regular fresh (λ n. (if s then if_held (holds env.base (joined If a b)) (joined If a b) (if_held (holds env.base q) q (concludes b) at) at else wrong_shape 2 at) (left_of n fresh))
+      go : (s : Bool) → is_alpha_equal q a ≡ s → Regular fresh (λ n. (if s then if_held (holds env.base (joined If a b)) (joined If a b) (if_held (holds env.base q) q (concludes b) at) at else wrong_shape 2 at) (left_of n fresh))
       go true f =
           if_held-regular (joined If a b) (if_held (holds env.base q) q (concludes b) at) at fresh
-          (λ i. if_held-regular q (concludes b) at fresh (λ h. sentence-regular b fresh (closed.detaches a b i (subst Q (same_sent-true q a f) h))) (holds env.base q) refl)
+          (λ i. if_held-regular q (concludes b) at fresh (λ h. sentence-regular b fresh (closed.detaches a b i (closed.renames q a ((alpha_told q a).0 f) h))) (holds env.base q) refl)
           (holds env.base (joined If a b)) refl
       go false f = error-regular fresh
 

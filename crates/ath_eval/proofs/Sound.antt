@@ -23,7 +23,7 @@ use Rattle.ath_trees.specs.Tree.{Term, Sent, atom, equal, negated, joined, bound
 use Rattle.ath_trees.specs.WellSorted.{is_valid_sort, HasSort, var_has, IsWellSorted}
 use Rattle.ath_trees.proofs.ValidSorts.{valid-var, use_valid}
 use Rattle.ath_construction.proofs.ApplicationLaws.{found-name}
-use Rattle.ath_calculus.specs.Derives.{Derives, if_elim, IsAmong, AreDerivable}
+use Rattle.ath_calculus.specs.Derives.{Derives, if_elim, alpha, IsAmong, AreDerivable}
 use Rattle.ath_calculus.specs.Theory.{Theory}
 use Rattle.ath_calculus.specs.Laws.{Extends, AreAmong}
 use Rattle.ath_calculus.proofs.Grown.{derivation_kept, well_sorted}
@@ -53,6 +53,7 @@ follows c env asserted hyps sound = record {
   equates = λ v w s t x h k e f b. tt;
   connects = λ k vs xs x h e b. tt;
   held = sound;
+  renames = λ p q e d. alpha e d;
   detaches = λ p q d e. if_elim d e;
 }
 
@@ -166,6 +167,7 @@ module _ (c : Context) (env : Environment) (asserted hyps : List Sent) (valid : 
     equates = λ v w s t x h k e f b. equation-sorted c.theory.signature valid there s t x (term-of v s h e) (term-of w t k f) b;
     connects = λ k vs xs x h e b. joined-sorted c.theory.signature valid there k xs x (all-of part_of Sorted HasOwnPart part-of 1 vs xs h e).0 b;
     held = sound;
+    renames = λ p q e d. alpha e d;
     detaches = λ p q d e. if_elim d e;
   }
 

@@ -4,7 +4,7 @@ use Rattle.std.specs.Prelude.{ℕ, ◌==◌, List, [], ◌∷◌, Option, Some, 
 use Rattle.ath_syntax.specs.declared.place.Pos.{Pos}
 use Rattle.ath_trees.specs.declared.node.Binary.TheVariants.{And, Or, If, Iff}
 use Rattle.ath_trees.specs.Tree.{Sent, atom, equal, negated, joined, bound}
-use Rattle.ath_trees.specs.Same.{same_sent}
+use Rattle.ath_trees.specs.Instance.{is_alpha_equal}
 use Rattle.ath_env.specs.Values.{Value, a_term, a_sentence, a_symbol, a_connective, a_quantifier, a_back, a_method, sentence_of}
 use Rattle.ath_print.specs.declared.fault.FaultKind.TheVariants.{WrongShape, NotInBase, NotMethod}
 use Rattle.ath_print.specs.Events.{sentence_named, number_named}
@@ -27,10 +27,10 @@ abbrev pub claim : List Entry → Option Sent → Pos → Left → Outcome
 claim base None at = wrong_kind 1 at
 claim base (Some p) at = if_held (holds base p) p (concludes p) at
 
--- modus ponens of `(if a b)` and `a` gives `b`
+-- modus ponens of `(if a b)` and `a`, up to the names and indices of bound variables, gives `b`
 abbrev pub detached : List Entry → Sent → Sent → Sent → Sent → Pos → Left → Outcome
 detached base p a b q at =
-    if same_sent q a
+    if is_alpha_equal q a
     then if_held (holds base p) p (if_held (holds base q) q (concludes b) at) at
     else wrong_shape 2 at
 

@@ -11,10 +11,10 @@ ghost use Rattle.ath_eval.specs.World.{IsSteady, Rests, environment_of};
 
 use crate::refusals::{missing, numbered};
 use crate::world::{Outcome, World};
+use ath_alpha::is_alpha_equal;
 use ath_env::{Value, sentence};
 use ath_print::FaultKind;
 use ath_syntax::Pos;
-use ath_terms::equality::is_same_sent;
 use ath_terms::{SentNode, Store};
 use ath_trees::{Conn, SentId};
 use std::alloc::{AllocError, Global};
@@ -89,7 +89,7 @@ fn detach(
     ensures { IfOk result (λ o. IsSteady w.now.store o (methods.detached (environment_of w.now).base (sent_at w.now.store.sents p.0) (sent_at w.now.store.sents parts.0.0) (sent_at w.now.store.sents parts.1.0) (sent_at w.now.store.sents q.0) at)) }
 {
     let (a, b) = parts;
-    if !is_same_sent(&w.store, q, a) {
+    if !is_alpha_equal(&w.store, q, a) {
         let outcome = numbered(alloc, FaultKind::WrongShape, 2, at)?;
         return Ok(outcome);
     }

@@ -17,6 +17,7 @@ anything c env = record {
   equates = λ v w s t x h k e f b. tt;
   connects = λ k vs xs x h e b. tt;
   held = λ p i. tt;
+  renames = λ p q e h. tt;
   detaches = λ p q h k. tt;
 }
 

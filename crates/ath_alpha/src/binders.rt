@@ -81,8 +81,11 @@ pub fn is_like_var<'a>(
             Binders::Under(b, inner) => {
                 let here = is_same_var(a, v);
                 let there = is_same_var(b, w);
-                if here || there {
-                    return here && there;
+                if here {
+                    return there;
+                }
+                if there {
+                    return false;
                 }
                 is_like_var(told, outer, v, inner, w)
             }

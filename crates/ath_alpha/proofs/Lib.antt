@@ -1,0 +1,3 @@
+pub mod ListLaws
+pub mod BinderLaws
+pub mod FormLaws

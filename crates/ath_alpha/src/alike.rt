@@ -1,0 +1,126 @@
+// Sentences of a store that are alike but for the names and indices of their bound variables.
+
+ghost use Rattle.std.specs.Prelude.{◌≡◌, ◌<◌, ◌↔◌, IsTrue, length};
+ghost use Rattle.ath_alpha.specs.Binders.{binders_of};
+ghost use Rattle.ath_alpha.specs.Seen.{term_seen, seen};
+ghost use Rattle.ath_terms.specs.Trees.{Trees, term_at, sent_at};
+ghost use Rattle.ath_trees.specs.Instance.{is_alpha_equal};
+ghost use Rattle.ath_trees.specs.Nameless.{nameless_term, nameless_under};
+
+use crate::binders::{Binders, are_like_sorts, is_like_sort, is_like_var};
+use ath_terms::{SentNode, Store, TermNode};
+use ath_trees::{SentId, TermId};
+
+fn are_like_terms<'a>(
+    store: &'a Store,
+    told: bool,
+    some: &'a Binders<'a>,
+    s: TermId,
+    others: &'a Binders<'a>,
+    t: TermId,
+) -> bool
+    requires left { s.0 < length store.now.terms }
+    requires right { t.0 < length store.now.terms }
+    ensures { IsTrue result ↔ (term_seen told (nameless_term (binders_of some.now) (term_at store.now.terms s.0)) ≡ term_seen told (nameless_term (binders_of others.now) (term_at store.now.terms t.0))) }
+{
+    match store.term(s) {
+        TermNode::Var(v) => match store.term(t) {
+            TermNode::Var(w) => is_like_var(told, some, v, others, w),
+            TermNode::App(_, _, _) => false,
+        },
+        TermNode::App(f, sorts, args) => match store.term(t) {
+            TermNode::Var(_) => false,
+            TermNode::App(g, rest, parts) => {
+                let xs = args.as_slice();
+                let ys = parts.as_slice();
+                if f.0 != g.0 || xs.len() != ys.len() {
+                    return false;
+                }
+                if !are_like_sorts(told, sorts.as_slice(), rest.as_slice()) {
+                    return false;
+                }
+                for i in 0..xs.len() {
+                    if !are_like_terms(store, told, some, xs[i], others, ys[i]) {
+                        return false;
+                    }
+                }
+                true
+            }
+        },
+    }
+}
+
+/// Whether two sentences under binders are alike, with their sorts where these are told.
+fn are_like_sents<'a>(
+    store: &'a Store,
+    told: bool,
+    some: &'a Binders<'a>,
+    p: SentId,
+    others: &'a Binders<'a>,
+    q: SentId,
+) -> bool
+    requires left { p.0 < length store.now.sents }
+    requires right { q.0 < length store.now.sents }
+    ensures { IsTrue result ↔ (seen told (nameless_under (binders_of some.now) (sent_at store.now.sents p.0)) ≡ seen told (nameless_under (binders_of others.now) (sent_at store.now.sents q.0))) }
+{
+    match store.sent(p) {
+        SentNode::Atom(s) => match store.sent(q) {
+            SentNode::Atom(t) => are_like_terms(store, told, some, *s, others, *t),
+            SentNode::Eq(_, _) => false,
+            SentNode::Conn(_, _) => false,
+            SentNode::Quant(_, _, _) => false,
+        },
+        SentNode::Eq(s, t) => match store.sent(q) {
+            SentNode::Atom(_) => false,
+            SentNode::Eq(u, v) => {
+                are_like_terms(store, told, some, *s, others, *u)
+                    && are_like_terms(store, told, some, *t, others, *v)
+            }
+            SentNode::Conn(_, _) => false,
+            SentNode::Quant(_, _, _) => false,
+        },
+        SentNode::Conn(c, ids) => match store.sent(q) {
+            SentNode::Atom(_) => false,
+            SentNode::Eq(_, _) => false,
+            SentNode::Conn(d, rest) => {
+                let xs = ids.as_slice();
+                let ys = rest.as_slice();
+                if *c != *d || xs.len() != ys.len() {
+                    return false;
+                }
+                for i in 0..xs.len() {
+                    if !are_like_sents(store, told, some, xs[i], others, ys[i]) {
+                        return false;
+                    }
+                }
+                true
+            }
+            SentNode::Quant(_, _, _) => false,
+        },
+        SentNode::Quant(k, v, body) => match store.sent(q) {
+            SentNode::Atom(_) => false,
+            SentNode::Eq(_, _) => false,
+            SentNode::Conn(_, _) => false,
+            SentNode::Quant(l, w, other) => {
+                if *k != *l || !is_like_sort(told, &v.sort, &w.sort) {
+                    return false;
+                }
+                let outer = Binders::Under(v, some);
+                let inner = Binders::Under(w, others);
+                are_like_sents(store, told, &outer, *body, &inner, *other)
+            }
+        },
+    }
+}
+
+/// Whether two sentences are one but for the names and indices of their bound variables.
+pub fn is_alpha_equal(store: &Store, p: SentId, q: SentId) -> bool
+    requires left { p.0 < length store.now.sents }
+    requires right { q.0 < length store.now.sents }
+    ensures { result ≡ is_alpha_equal (sent_at store.now.sents p.0) (sent_at store.now.sents q.0) }
+{
+    if p.0 == q.0 {
+        return true;
+    }
+    are_like_sents(store, true, &Binders::Outside, p, &Binders::Outside, q)
+}

@@ -19,7 +19,7 @@ use Rattle.ath_terms.specs.declared.node.SentNode.{SentNode}
 use Rattle.ath_terms.specs.declared.node.SentNode.TheVariants as node
 use Rattle.ath_terms.specs.Trees.{term_at, sent_at}
 use Rattle.ath_terms.specs.Nodes.{term_tree, sent_tree, conn_tree, parts_tree, arity, IsSentBelow}
-use Rattle.ath_alpha.proofs.BinderLaws.{var-no-app}
+use Rattle.ath_alpha.proofs.BinderLaws.{no_app}
 use Rattle.ath_alpha.specs.Seen.{sorts_seen, term_seen, terms_seen, seen}
 
 -- ---- with all sorts told, forms are as they are
@@ -100,7 +100,7 @@ module _ (told : Bool) (ts : List Term) where
   app_is_no_var ws vs s t m n v f ss xs left right is js e =
       let p = rw is at left in
       let q = rw js at right in
-      var-no-app told ws 0 v f (sorts_seen told ss) (terms_seen told (nameless_terms vs (listed (map (λ i. term_at ts i.0) xs))))
+      (no_app ws v).unlike told f (sorts_seen told ss) (terms_seen told (nameless_terms vs (listed (map (λ i. term_at ts i.0) xs))))
       (ap (λ x. term_seen told (nameless_term ws x)) p ∙ e ∙ ap (λ x. term_seen told (nameless_term vs x)) (sym q))
 
 -- ---- connectives

@@ -1,9 +1,6 @@
 -- Two lists under two functions.
 use Rattle.std.proofs.Common.{◌≡◌, ℕ, zero, suc, ◌<◌, ◌≤◌, List, [], ◌∷◌, length, map, take, get_or, refl, arith}
-use Rattle.std.proofs.lemmas.Grind.{common_steps}
-
-take-all : {A : Type 0} (xs : List A) (n : ℕ) → length xs ≤ n → take n xs ≡ xs
-take-all xs n e = grind (arith, common_steps)
+use Rattle.std.proofs.lemmas.List.{take_all}
 
 module _ {A B : Type 0} (f g : A → B) where
   pub maps-lengths : (xs ys : List A) → map f xs ≡ map g ys → length xs ≡ length ys
@@ -20,4 +17,4 @@ module _ {A B : Type 0} (f g : A → B) where
 
   -- every member
   pub maps-all : (xs ys : List A) (n : ℕ) → length xs ≤ n → length ys ≤ n → map f (take n xs) ≡ map g (take n ys) → map f xs ≡ map g ys
-  maps-all xs ys n h k e = let p = take-all xs n h in let q = take-all ys n k in rw (p, q) at e
+  maps-all xs ys n h k e = rw (take_all n xs h, take_all n ys k) at e

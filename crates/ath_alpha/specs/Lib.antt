@@ -1,2 +1,4 @@
 pub mod Binders
 pub mod Seen
+pub mod Answer
+pub mod Keys

@@ -2,14 +2,64 @@
 
 ghost use Rattle.std.specs.Prelude.{◌≡◌, ◌<◌, ◌↔◌, IsTrue, length};
 ghost use Rattle.ath_alpha.specs.Binders.{binders_of};
-ghost use Rattle.ath_alpha.specs.Seen.{term_seen, seen};
+ghost use Rattle.ath_alpha.specs.Seen.{sort_seen, sorts_seen, var_seen, term_seen, seen};
 ghost use Rattle.ath_terms.specs.Trees.{Trees, term_at, sent_at};
 ghost use Rattle.ath_trees.specs.Instance.{is_alpha_equal};
-ghost use Rattle.ath_trees.specs.Nameless.{nameless_term, nameless_under};
+ghost use Rattle.ath_trees.specs.Nameless.{placed, nameless_term, nameless_under};
 
-use crate::binders::{Binders, are_like_sorts, is_like_sort, is_like_var};
+use crate::binders::{Binders, Meeting, meeting_of};
+use ath_sorts::Sort;
+use ath_sorts::sorts::is_same;
 use ath_terms::{SentNode, Store, TermNode};
-use ath_trees::{SentId, TermId};
+use ath_trees::{SentId, TermId, Var};
+
+fn is_like_sort(told: bool, s: &Sort, t: &Sort) -> bool
+    ensures { IsTrue result ↔ (sort_seen told s.now ≡ sort_seen told t.now) }
+{
+    if told { is_same(s, t) } else { true }
+}
+
+fn are_like_sorts(told: bool, some: &[Sort], others: &[Sort]) -> bool
+    ensures { IsTrue result ↔ (sorts_seen told some.now ≡ sorts_seen told others.now) }
+{
+    if !told {
+        return true;
+    }
+    if some.len() != others.len() {
+        return false;
+    }
+    for i in 0..some.len() {
+        if !is_same(&some[i], &others[i]) {
+            return false;
+        }
+    }
+    true
+}
+
+fn is_like_free(told: bool, v: &Var, w: &Var) -> bool
+    ensures { IsTrue result ↔ (var_seen told v.now ≡ var_seen told w.now) }
+{
+    if v.name.0 != w.name.0 || v.index != w.index {
+        return false;
+    }
+    is_like_sort(told, &v.sort, &w.sort)
+}
+
+fn is_like_var<'a>(
+    told: bool,
+    some: &'a Binders<'a>,
+    v: &Var,
+    others: &'a Binders<'a>,
+    w: &Var,
+) -> bool
+    ensures { IsTrue result ↔ (term_seen told (placed (binders_of some.now) 0 v.now) ≡ term_seen told (placed (binders_of others.now) 0 w.now)) }
+{
+    match meeting_of(some, v, others, w) {
+        Meeting::Bound => true,
+        Meeting::Free => is_like_free(told, v, w),
+        Meeting::Apart => false,
+    }
+}
 
 fn are_like_terms<'a>(
     store: &'a Store,
@@ -51,7 +101,7 @@ fn are_like_terms<'a>(
 }
 
 /// Whether two sentences under binders are alike, with their sorts where these are told.
-fn are_like_sents<'a>(
+pub fn are_like_sents<'a>(
     store: &'a Store,
     told: bool,
     some: &'a Binders<'a>,

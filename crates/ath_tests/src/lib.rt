@@ -3,6 +3,8 @@
 #![tactic(auto)]
 
 #[cfg(test)]
+mod alpha;
+#[cfg(test)]
 mod declarations;
 #[cfg(test)]
 mod examples;

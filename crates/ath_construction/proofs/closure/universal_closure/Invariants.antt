@@ -1,5 +1,4 @@
 use Rattle.std.proofs.Common.{◌≡◌, ◌≤◌, length, drop}
-use Rattle.std.specs.Prelude.{Ok}
 use Rattle.ath_sorts.specs.Signature.{Signature}
 use Rattle.ath_trees.specs.Tree.{Sent}
 use Rattle.ath_terms.specs.SortsIn.{IsSortedIn}
@@ -12,7 +11,7 @@ abbrev pub invariant-loop-i : goal.invariant-loop-i
 invariant-loop-i l = record {
   within : l.i ≤ length l.variables;
   grows : Grows l.fn.store l.store;
-  built : (x : Sent) × ((closed_in_turn (drop l.i l.variables) (sent_at l.fn.store.sents l.fn.p.0) ≡ builds x) × IsSent l.store l.sent.0 x);
+  built : (x : Sent) × (closed_in_turn (drop l.i l.variables) (sent_at l.fn.store.sents l.fn.p.0) ≡ builds x) × IsSent l.store l.sent.0 x;
   sorted : (sig : Signature) → IsSortedIn sig l.fn.store → IsSortedIn sig l.store;
 }
 

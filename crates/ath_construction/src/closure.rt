@@ -16,12 +16,7 @@ use ath_trees::{Quant, SentId, Var};
 use std::alloc::Global;
 
 /// The sentence closed over one variable.
-fn close_one(
-    alloc: Global,
-    store: &mut Store,
-    v: &Var,
-    p: SentId,
-) -> Result<SentId, BuildError>
+fn close_one(alloc: Global, store: &mut Store, v: &Var, p: SentId) -> Result<SentId, BuildError>
     requires { p.0 < length store.old.sents }
     ensures grows { Grows store.old store.new }
     ensures built { IsSentBuilt store.new (closed_one v.now (builds (sent_at store.old.sents p.0))) result }
@@ -37,11 +32,7 @@ fn close_one(
 }
 
 /// The sentence closed over its free variables, the one that occurs first outermost.
-pub fn universal_closure(
-    alloc: Global,
-    store: &mut Store,
-    p: SentId,
-) -> Result<SentId, BuildError>
+pub fn universal_closure(alloc: Global, store: &mut Store, p: SentId) -> Result<SentId, BuildError>
     requires { p.0 < length store.old.sents }
     ensures grows { Grows store.old store.new }
     ensures inside { IfOk result (λ r. r.0 < length store.new.sents) }

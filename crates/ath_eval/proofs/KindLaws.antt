@@ -19,7 +19,7 @@ front_at vs front k d h e = let f : drop k vs ≡ get_or vs k d ∷ drop (k + 1)
 
 module _ (s : Trees) where
   -- a value that is no term is none in the store
-  no_term : (v : value.Value) → ((t : TermId) → v ≡ code.Term t → ⊥) → term_of (value_at s v) ≡ None
+  pub no_term : (v : value.Value) → ((t : TermId) → v ≡ code.Term t → ⊥) → term_of (value_at s v) ≡ None
   no_term (code.Term t) h = absurd (h t refl)
   no_term (code.Sent p) h = refl
   no_term (code.Symbol f) h = refl

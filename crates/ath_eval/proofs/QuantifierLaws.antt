@@ -1,0 +1,129 @@
+-- Applications of quantifiers.
+use Rattle.std.proofs.Common.{◌≡◌, ℕ, suc, ◌+◌, ◌<◌, ◌≤◌, List, [], ◌∷◌, ◌++◌, length, drop, get_or, Option, Some, None, refl, sym, ◌∙◌, ap, add-one, drop-cons, arith}
+use Rattle.std.specs.List.{All, AllByRecursion}
+use Rattle.std.proofs.lemmas.List.{append_assoc, append-nil, drop_all, length_push}
+use Rattle.std.proofs.lemmas.List.Elements.{All-from_recursion, All-head, All-tail}
+use Rattle.ath_sorts.specs.Signature.{Signature}
+use Rattle.ath_terms.specs.declared.measure.BuildError.{BuildError}
+use Rattle.ath_terms.specs.SortsIn.{IsSortedIn}
+use Rattle.ath_terms.specs.Trees.{Trees}
+use Rattle.ath_trees.specs.declared.node.Quant.{Quant}
+use Rattle.ath_trees.specs.declared.node.Var.{Var}
+use Rattle.ath_trees.specs.Tree.{Sent}
+use Rattle.ath_construction.specs.Answers.{IsRefused}
+use Rattle.ath_construction.specs.Construction.{Unbuilt, Built, builds, refuses, made_quantifier}
+use Rattle.ath_env.specs.declared.value.Value as value
+use Rattle.ath_env.specs.declared.value.Value.TheVariants as code
+use Rattle.ath_env.specs.Stands.{IsIn, value_at}
+use Rattle.ath_env.specs.Values.{Value}
+use Rattle.ath_eval.specs.Applying.{Kinds, all_are, wrong_at, and_kind, kinds_of, part_of, variable_term, variable_in, but_last, the_last, quantified, quantified_over, quantifier_to, quantifier_applied}
+use Rattle.ath_eval.specs.Arguments.{values_at}
+use Rattle.ath_eval.specs.Laws.{IsSortedValue}
+use Rattle.ath_eval.proofs.Arguments.{values_end}
+use Rattle.ath_eval.proofs.ConnectiveLaws.{refused_same}
+use Rattle.ath_eval.proofs.Constructed.{IsSortedVariable, variable-sorted}
+use Rattle.ath_eval.proofs.KindLaws.{no_term, length_map}
+use Rattle.ath_eval.proofs.Sound.{all-of}
+
+-- ---- kinds one by one
+abbrev pub after_those : List Var → Kinds Var → Kinds Var
+after_those vs (all_are ws) = all_are (vs ++ ws)
+after_those vs (wrong_at i) = wrong_at i
+
+those_more : (vs : List Var) (v : Var) (i : ℕ) (k : Kinds Var) → after_those vs (and_kind i (Some v) k) ≡ after_those (vs ++ v ∷ []) k
+those_more vs v i (all_are ws) = ap all_are (sym (append_assoc vs (v ∷ []) ws))
+those_more vs v i (wrong_at j) = refl
+
+pub those_none : (k : Kinds Var) → k ≡ after_those [] k
+those_none (all_are ws) = refl
+those_none (wrong_at i) = refl
+
+-- the kinds of the values from a number on
+abbrev pub kinds_from : Trees → ℕ → List value.Value → Kinds Var
+kinds_from s i vs = kinds_of variable_in (i + 1) (values_at s (drop i vs))
+
+module _ (s : Trees) (vs : List value.Value) where
+  -- a value after others that are variables
+  module _ (i : ℕ) (d : value.Value) (lt : i < length vs) (vars : List Var) (whole : Kinds Var) (inv : whole ≡ after_those vars (kinds_from s i vs)) where
+    at_here : whole ≡ after_those vars (and_kind (i + 1) (variable_in (value_at s (get_or vs i d))) (kinds_from s (i + 1) vs))
+    at_here =
+        let e : drop i vs ≡ get_or vs i d ∷ drop (i + 1) vs = rw add-one (drop-cons vs i d lt) in
+        let n : suc (i + 1) ≡ i + 1 + 1 = omega arith in
+        inv ∙ ap (λ (us : List value.Value). after_those vars (kinds_of variable_in (i + 1) (values_at s us))) e
+        ∙ ap (λ (k : ℕ). after_those vars (and_kind (i + 1) (variable_in (value_at s (get_or vs i d))) (kinds_of variable_in k (values_at s (drop (i + 1) vs))))) n
+
+    pub kind_next : (v : Var) → variable_in (value_at s (get_or vs i d)) ≡ Some v → whole ≡ after_those (vars ++ v ∷ []) (kinds_from s (i + 1) vs)
+    kind_next v e = at_here ∙ ap (λ (o : Option Var). after_those vars (and_kind (i + 1) o (kinds_from s (i + 1) vs))) e ∙ those_more vars v (i + 1) (kinds_from s (i + 1) vs)
+
+    pub kind_wrong : variable_in (value_at s (get_or vs i d)) ≡ None → whole ≡ wrong_at (i + 1)
+    kind_wrong e = at_here ∙ ap (λ (o : Option Var). after_those vars (and_kind (i + 1) o (kinds_from s (i + 1) vs))) e
+
+  pub kinds_done : (n : ℕ) (vars : List Var) (whole : Kinds Var) → length vs ≤ n → whole ≡ after_those vars (kinds_from s n vs) → whole ≡ all_are vars
+  kinds_done n vars whole le inv = inv ∙ ap (λ (us : List value.Value). after_those vars (kinds_of variable_in (n + 1) (values_at s us))) (drop_all n vs le) ∙ ap all_are (append-nil vars)
+
+-- ---- the variables that are found
+module _ (sig : Signature) (s : Trees) (sorted : IsSortedIn sig s) where
+  value_sorted : (v : value.Value) → IsIn s v → IsSortedValue sig (value_at s v)
+  value_sorted (code.Term t) h = sorted.terms t.0 h
+  value_sorted (code.Sent p) h = sorted.sents p.0 h
+  value_sorted (code.Symbol f) h = tt
+  value_sorted (code.Conn k) h = tt
+  value_sorted (code.Quant q) h = tt
+  value_sorted code.Back h = tt
+  value_sorted (code.PrimMethod n) h = tt
+
+  values_sorted : (vs : List value.Value) → All (IsIn s) vs → AllByRecursion (IsSortedValue sig) (values_at s vs)
+  values_sorted [] h = tt
+  values_sorted (v ∷ vs) h = (value_sorted v (All-head (IsIn s) v vs h), values_sorted vs (All-tail (IsIn s) v vs h))
+
+  pub variables_sorted : (vs : List value.Value) (xs : List Var) → All (IsIn s) vs → kinds_of variable_in 1 (values_at s vs) ≡ all_are xs → All (IsSortedVariable sig) xs
+  variables_sorted vs xs h e = All-from_recursion (IsSortedVariable sig) xs (all-of variable_in (IsSortedValue sig) (IsSortedVariable sig) (variable-sorted sig) 1 (values_at s vs) xs (values_sorted vs h) e).0
+
+pub no_variable : (s : Trees) (v : value.Value) → ((t : _) → v ≡ code.Term t → ⊥) → variable_in (value_at s v) ≡ None
+no_variable s v h = ap variable_term (no_term s v h)
+
+-- ---- a variable after others
+module _ (sig : Signature) (q : Quant) where
+  over_end : (vs : List Var) (v : Var) (b : Built Sent) → quantified_over sig q (vs ++ v ∷ []) b ≡ quantified_over sig q vs (quantified sig q v b)
+  over_end [] v b = refl
+  over_end (w ∷ vs) v b = ap (quantified sig q w) (over_end vs v b)
+
+  over_refused : (vs : List Var) (why : Unbuilt) → quantified_over sig q vs (refuses why) ≡ refuses why
+  over_refused [] why = refl
+  over_refused (v ∷ vs) why = ap (quantified sig q v) (over_refused vs why)
+
+  -- where the part is refused the quantifier is
+  pub part_refused : (u : Trees) (vs : List Var) (b : Built Sent) (e : BuildError) → IsRefused u b e → IsRefused u (quantified_over sig q vs b) e
+  part_refused u vs b e h = refused_same u b (quantified_over sig q vs b) e (λ why r. ap (quantified_over sig q vs) r ∙ over_refused vs why) h
+
+  module _ (vs rest : List Var) (v : Var) (p : Sent) (whole : Built Sent) (last : vs ≡ rest ++ v ∷ []) (inv : whole ≡ quantified_over sig q vs (builds p)) where
+    next_is : whole ≡ quantified_over sig q rest (made_quantifier sig q v p)
+    next_is = inv ∙ ap (λ (us : List Var). quantified_over sig q us (builds p)) last ∙ over_end rest v (builds p)
+
+    pub over_next : (x : Sent) → made_quantifier sig q v p ≡ builds x → whole ≡ quantified_over sig q rest (builds x)
+    over_next x e = next_is ∙ ap (quantified_over sig q rest) e
+
+    pub over_stopped : (u : Trees) (e : BuildError) → IsRefused u (made_quantifier sig q v p) e → IsRefused u whole e
+    over_stopped u e h = refused_same u (made_quantifier sig q v p) whole e (λ why r. next_is ∙ ap (quantified_over sig q rest) r ∙ over_refused rest why) h
+
+-- ---- the arguments
+but_last-end : (v : Value) (vs : List Value) (w : Value) → but_last v (vs ++ w ∷ []) ≡ v ∷ vs
+but_last-end v [] w = refl
+but_last-end v (u ∷ vs) w = ap (λ (us : List Value). v ∷ us) (but_last-end u vs w)
+
+the_last-end : (v : Value) (vs : List Value) (w : Value) → the_last v (vs ++ w ∷ []) ≡ w
+the_last-end v [] w = refl
+the_last-end v (u ∷ vs) w = the_last-end u vs w
+
+module _ (sig : Signature) (q : Quant) where
+  applied-end : (v : Value) (vs : List Value) (w : Value) → quantifier_applied sig q (v ∷ vs ++ w ∷ []) ≡ quantifier_to sig q (length (v ∷ vs) + 1) (kinds_of variable_in 1 (v ∷ vs)) (part_of w)
+  applied-end v [] w = refl
+  applied-end v (u ∷ vs) w =
+      let n : length (v ∷ u ∷ vs ++ w ∷ []) ≡ length (v ∷ u ∷ vs) + 1 = length_push (v ∷ u ∷ vs) w in
+      λ i. quantifier_to sig q (n i) (kinds_of variable_in 1 (v ∷ but_last-end u vs w i)) (part_of (the_last-end u vs w i))
+
+  pub applied_to : (s : Trees) (front : List value.Value) (last : value.Value) → (length front ≡ 0 → ⊥) → quantifier_applied sig q (values_at s (front ++ last ∷ [])) ≡ quantifier_to sig q (length front + 1) (kinds_of variable_in 1 (values_at s front)) (part_of (value_at s last))
+  applied_to s [] last h = absurd (h refl)
+  applied_to s (v ∷ front) last h =
+      ap (λ (xs : List Value). quantifier_applied sig q (value_at s v ∷ xs)) (values_end s front last) ∙ applied-end (value_at s v) (values_at s front) (value_at s last)
+      ∙ (let n : length (value_at s v ∷ values_at s front) + 1 ≡ length (v ∷ front) + 1 = ap (λ (k : ℕ). k + 1) (length_map (value_at s) (v ∷ front)) in ap (λ (k : ℕ). quantifier_to sig q k (kinds_of variable_in 1 (values_at s (v ∷ front))) (part_of (value_at s last))) n)

@@ -8,6 +8,7 @@ use Rattle.ath_terms.specs.declared.measure.BuildError.{BuildError}
 use Rattle.ath_terms.specs.SortsIn.{IsSortedIn}
 use Rattle.ath_terms.specs.Trees.{Trees}
 use Rattle.ath_trees.specs.declared.node.Quant.{Quant}
+use Rattle.ath_trees.specs.declared.node.TermId.{TermId}
 use Rattle.ath_trees.specs.declared.node.Var.{Var}
 use Rattle.ath_trees.specs.Tree.{Sent}
 use Rattle.ath_construction.specs.Answers.{IsRefused}
@@ -79,7 +80,7 @@ module _ (sig : Signature) (s : Trees) (sorted : IsSortedIn sig s) where
   pub variables_sorted : (vs : List value.Value) (xs : List Var) → All (IsIn s) vs → kinds_of variable_in 1 (values_at s vs) ≡ all_are xs → All (IsSortedVariable sig) xs
   variables_sorted vs xs h e = All-from_recursion (IsSortedVariable sig) xs (all-of variable_in (IsSortedValue sig) (IsSortedVariable sig) (variable-sorted sig) 1 (values_at s vs) xs (values_sorted vs h) e).0
 
-pub no_variable : (s : Trees) (v : value.Value) → ((t : _) → v ≡ code.Term t → ⊥) → variable_in (value_at s v) ≡ None
+pub no_variable : (s : Trees) (v : value.Value) → ((t : TermId) → v ≡ code.Term t → ⊥) → variable_in (value_at s v) ≡ None
 no_variable s v h = ap variable_term (no_term s v h)
 
 -- ---- a variable after others

@@ -12,5 +12,8 @@ invariant-loop-v l = record {
   rests : Rests l.fn.w l.w;
   inside : l.sent.0 < length l.w.store.sents;
   sorts : All (IsSortedVariable l.fn.w.sig) l.vars.items;
-  built : quantified_over l.fn.w.sig l.q l.fn.vars.items (builds (sent_at l.fn.w.store.sents l.body.0)) ≡ quantified_over l.fn.w.sig l.q l.vars.items (builds (sent_at l.w.store.sents l.sent.0));
+  built : quantified_over l.fn.w.sig l.q l.fn.vars.items (builds (sent_at l.fn.w.store.sents l.fn.body.0)) ≡ quantified_over l.fn.w.sig l.q l.vars.items (builds (sent_at l.w.store.sents l.sent.0));
 }
+
+abbrev pub decreases-loop-v : goal.decreases-loop-v
+decreases-loop-v l = length l.vars.items

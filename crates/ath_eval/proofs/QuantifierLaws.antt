@@ -1,17 +1,18 @@
 -- Applications of quantifiers.
-use Rattle.std.proofs.Common.{◌≡◌, ℕ, suc, ◌+◌, ◌<◌, ◌≤◌, List, [], ◌∷◌, ◌++◌, length, drop, get_or, Option, Some, None, refl, sym, ◌∙◌, ap, add-one, drop-cons, arith}
+use Rattle.std.proofs.Common.{◌≡◌, ℕ, suc, ◌+◌, ◌-◌, ◌<◌, ◌≤◌, List, [], ◌∷◌, ◌++◌, length, drop, take, get_or, Option, Some, None, Ok, refl, sym, ◌∙◌, ap, add-one, drop-cons, arith}
 use Rattle.std.specs.List.{All, AllByRecursion}
-use Rattle.std.proofs.lemmas.List.{append_assoc, append-nil, drop_all, length_push}
+use Rattle.std.proofs.lemmas.List.{append_assoc, append-nil, drop_all, length_push, take_more}
 use Rattle.std.proofs.lemmas.List.Elements.{All-from_recursion, All-head, All-tail}
 use Rattle.ath_sorts.specs.Signature.{Signature}
 use Rattle.ath_terms.specs.declared.measure.BuildError.{BuildError}
 use Rattle.ath_terms.specs.SortsIn.{IsSortedIn}
-use Rattle.ath_terms.specs.Trees.{Trees}
+use Rattle.ath_terms.specs.Trees.{Trees, sent_at}
 use Rattle.ath_trees.specs.declared.node.Quant.{Quant}
 use Rattle.ath_trees.specs.declared.node.TermId.{TermId}
+use Rattle.ath_trees.specs.declared.node.SentId.{SentId}
 use Rattle.ath_trees.specs.declared.node.Var.{Var}
 use Rattle.ath_trees.specs.Tree.{Sent}
-use Rattle.ath_construction.specs.Answers.{IsRefused}
+use Rattle.ath_construction.specs.Answers.{IsRefused, IsSentBuilt}
 use Rattle.ath_construction.specs.Construction.{Unbuilt, Built, builds, refuses, made_quantifier}
 use Rattle.ath_env.specs.declared.value.Value as value
 use Rattle.ath_env.specs.declared.value.Value.TheVariants as code
@@ -97,15 +98,19 @@ module _ (sig : Signature) (q : Quant) where
   pub part_refused : (u : Trees) (vs : List Var) (b : Built Sent) (e : BuildError) → IsRefused u b e → IsRefused u (quantified_over sig q vs b) e
   part_refused u vs b e h = refused_same u b (quantified_over sig q vs b) e (λ why r. ap (quantified_over sig q vs) r ∙ over_refused vs why) h
 
-  module _ (vs rest : List Var) (v : Var) (p : Sent) (whole : Built Sent) (last : vs ≡ rest ++ v ∷ []) (inv : whole ≡ quantified_over sig q vs (builds p)) where
-    next_is : whole ≡ quantified_over sig q rest (made_quantifier sig q v p)
-    next_is = inv ∙ ap (λ (us : List Var). quantified_over sig q us (builds p)) last ∙ over_end rest v (builds p)
+  -- the variable before the number i
+  module _ (vs : List Var) (i : ℕ) (v : Var) (some : 0 < i) (within : i ≤ length vs) (here : v ≡ get_or vs (i - 1) v) (p : Sent) (whole : Built Sent) (inv : whole ≡ quantified_over sig q (take i vs) (builds p)) where
+    next_is : whole ≡ quantified_over sig q (take (i - 1) vs) (made_quantifier sig q v p)
+    next_is =
+        let n : i ≡ i - 1 + 1 = omega (arith, some) in
+        let e : take i vs ≡ take (i - 1) vs ++ v ∷ [] = ap (λ (k : ℕ). take k vs) n ∙ take_more vs (i - 1) v (omega (arith, some, within)) ∙ ap (λ (w : Var). take (i - 1) vs ++ w ∷ []) (sym here) in
+        inv ∙ ap (λ (us : List Var). quantified_over sig q us (builds p)) e ∙ over_end (take (i - 1) vs) v (builds p)
 
-    pub over_next : (x : Sent) → made_quantifier sig q v p ≡ builds x → whole ≡ quantified_over sig q rest (builds x)
-    over_next x e = next_is ∙ ap (quantified_over sig q rest) e
+    pub over_next : (u : Trees) (r : SentId) → IsSentBuilt u (made_quantifier sig q v p) (Ok r) → whole ≡ quantified_over sig q (take (i - 1) vs) (builds (sent_at u.sents r.0))
+    over_next u r (x, e, is) = next_is ∙ ap (quantified_over sig q (take (i - 1) vs)) (e ∙ ap builds (sym is.1))
 
     pub over_stopped : (u : Trees) (e : BuildError) → IsRefused u (made_quantifier sig q v p) e → IsRefused u whole e
-    over_stopped u e h = refused_same u (made_quantifier sig q v p) whole e (λ why r. next_is ∙ ap (quantified_over sig q rest) r ∙ over_refused rest why) h
+    over_stopped u e h = refused_same u (made_quantifier sig q v p) whole e (λ why r. next_is ∙ ap (quantified_over sig q (take (i - 1) vs)) r ∙ over_refused (take (i - 1) vs) why) h
 
 -- ---- the arguments
 but_last-end : (v : Value) (vs : List Value) (w : Value) → but_last v (vs ++ w ∷ []) ≡ v ∷ vs

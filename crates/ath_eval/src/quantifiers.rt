@@ -30,18 +30,19 @@ fn quantify_over(
     alloc: Global,
     w: &mut World,
     q: Quant,
-    vars: Vec<Var>,
+    vars: &[Var],
     body: SentId,
 ) -> Result<SentId, BuildError>
-    requires sorts { All (λ v. is_valid_sort w.old.sig v.sort ≡ true) vars.items }
+    requires sorts { All (λ v. is_valid_sort w.old.sig v.sort ≡ true) vars.now }
     requires body { body.0 < length w.old.store.sents }
     ensures rests { Rests w.old w.new }
-    ensures built { IsSentBuilt w.new.store (applying.quantified_over w.old.sig q vars.items (builds (sent_at w.old.store.sents body.0))) result }
+    ensures built { IsSentBuilt w.new.store (applying.quantified_over w.old.sig q vars.now (builds (sent_at w.old.store.sents body.0))) result }
 {
-    let mut vars = vars;
+    let mut i = vars.len();
     let mut sent = body;
-    while let Some(v) = vars.pop() {
-        match quantify(alloc, &mut w.store, q, &v, sent) {
+    while i > 0 {
+        i -= 1;
+        match quantify(alloc, &mut w.store, q, &vars[i], sent) {
             Ok(p) => sent = p,
             Err(error) => return Err(error),
         }
@@ -54,13 +55,13 @@ fn quantify_part(
     alloc: Global,
     w: &mut World,
     q: Quant,
-    vars: Vec<Var>,
+    vars: &[Var],
     part: Part,
 ) -> Result<SentId, BuildError>
-    requires sorts { All (λ v. is_valid_sort w.old.sig v.sort ≡ true) vars.items }
+    requires sorts { All (λ v. is_valid_sort w.old.sig v.sort ≡ true) vars.now }
     requires part { IsPieceIn w.old.store part }
     ensures rests { Rests w.old w.new }
-    ensures built { IsSentBuilt w.new.store (applying.quantified_over w.old.sig q vars.items (applying.sentence_made w.old.sig (piece_tree w.old.store part))) result }
+    ensures built { IsSentBuilt w.new.store (applying.quantified_over w.old.sig q vars.now (applying.sentence_made w.old.sig (piece_tree w.old.store part))) result }
 {
     match sentence_of(alloc, w, part) {
         Ok(body) => quantify_over(alloc, w, q, vars, body),
@@ -94,7 +95,7 @@ fn quantify_values(
         let outcome = numbered(alloc, FaultKind::WrongKind, front.len() as u64 + 1, at)?;
         return Ok(outcome);
     };
-    let made = quantify_part(alloc, w, q, vars, part);
+    let made = quantify_part(alloc, w, q, vars.as_slice(), part);
     let outcome = sentence_made(alloc, made, at)?;
     Ok(outcome)
 }

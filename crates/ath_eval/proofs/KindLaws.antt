@@ -39,7 +39,7 @@ module _ (s : Trees) where
   wrong_term i [] v rest h = ap (λ (o : Option Term). and_kind i o (kinds_of term_of (suc i) (values_at s rest))) (no_term v h) ∙ (let n : i ≡ 0 + i = omega arith in ap (λ (k : ℕ). wrong_at k) n)
   wrong_term i (t ∷ ids) v rest h = ap (λ (k : Kinds Term). and_kind i (Some (term_at s.terms t.0)) k) (wrong_term (suc i) ids v rest h ∙ (let n : length ids + suc i ≡ suc (length ids) + i = omega arith in ap (λ (k : ℕ). wrong_at k) n))
 
-  no_part : (v : value.Value) → IsNoPiece v → part_of (value_at s v) ≡ None
+  pub no_part : (v : value.Value) → IsNoPiece v → part_of (value_at s v) ≡ None
   no_part (code.Term t) h = absurd (h (piece.Term t) refl)
   no_part (code.Sent p) h = absurd (h (piece.Sent p) refl)
   no_part (code.Symbol f) h = refl

@@ -1,5 +1,5 @@
 -- Applications of quantifiers.
-use Rattle.std.proofs.Common.{◌≡◌, ℕ, suc, ◌+◌, ◌-◌, ◌<◌, ◌≤◌, List, [], ◌∷◌, ◌++◌, length, drop, take, get_or, Option, Some, None, Ok, refl, sym, ◌∙◌, ap, add-one, drop-cons, arith}
+use Rattle.std.proofs.Common.{◌≡◌, ℕ, suc, ◌+◌, ◌-◌, ◌<◌, ◌≤◌, ◌==◌, false, List, [], ◌∷◌, ◌++◌, length, drop, take, get_or, Option, Some, None, Ok, refl, sym, ◌∙◌, ap, add-one, drop-cons, arith}
 use Rattle.std.specs.List.{All, AllByRecursion}
 use Rattle.std.proofs.lemmas.List.{append_assoc, append-nil, drop_all, length_push, take_more}
 use Rattle.std.proofs.lemmas.List.Elements.{All-from_recursion, All-head, All-tail}
@@ -128,8 +128,8 @@ module _ (sig : Signature) (q : Quant) where
       let n : length (v ∷ u ∷ vs ++ w ∷ []) ≡ length (v ∷ u ∷ vs) + 1 = length_push (v ∷ u ∷ vs) w in
       λ i. quantifier_to sig q (n i) (kinds_of variable_in 1 (v ∷ but_last-end u vs w i)) (part_of (the_last-end u vs w i))
 
-  pub applied_to : (s : Trees) (front : List value.Value) (last : value.Value) → (length front ≡ 0 → ⊥) → quantifier_applied sig q (values_at s (front ++ last ∷ [])) ≡ quantifier_to sig q (length front + 1) (kinds_of variable_in 1 (values_at s front)) (part_of (value_at s last))
-  applied_to s [] last h = absurd (h refl)
+  pub applied_to : (s : Trees) (front : List value.Value) (last : value.Value) → (length front == 0) ≡ false → quantifier_applied sig q (values_at s (front ++ last ∷ [])) ≡ quantifier_to sig q (length front + 1) (kinds_of variable_in 1 (values_at s front)) (part_of (value_at s last))
+  applied_to s [] last h = absurd (cc)
   applied_to s (v ∷ front) last h =
       ap (λ (xs : List Value). quantifier_applied sig q (value_at s v ∷ xs)) (values_end s front last) ∙ applied-end (value_at s v) (values_at s front) (value_at s last)
       ∙ (let n : length (value_at s v ∷ values_at s front) + 1 ≡ length (v ∷ front) + 1 = ap (λ (k : ℕ). k + 1) (length_map (value_at s) (v ∷ front)) in ap (λ (k : ℕ). quantifier_to sig q k (kinds_of variable_in 1 (values_at s (v ∷ front))) (part_of (value_at s last))) n)

@@ -1,14 +1,13 @@
 -- Applications of quantifiers.
-use Rattle.std.proofs.Common.{◌≡◌, ℕ, suc, ◌+◌, ◌-◌, ◌<◌, ◌≤◌, ◌==◌, false, List, [], ◌∷◌, ◌++◌, length, drop, take, get_or, Option, Some, None, Ok, refl, sym, ◌∙◌, ap, add-one, drop-cons, arith}
+use Rattle.std.proofs.Common.{◌≡◌, ℕ, ◌+◌, ◌-◌, ◌<◌, ◌≤◌, ◌==◌, false, List, [], ◌∷◌, ◌++◌, length, take, get_or, Ok, refl, sym, ◌∙◌, ap, arith}
 use Rattle.std.specs.List.{All, AllByRecursion}
-use Rattle.std.proofs.lemmas.List.{append_assoc, append-nil, drop_all, length_push, take_more}
+use Rattle.std.proofs.lemmas.List.{length_push, take_more}
 use Rattle.std.proofs.lemmas.List.Elements.{All-from_recursion, All-head, All-tail}
 use Rattle.ath_sorts.specs.Signature.{Signature}
 use Rattle.ath_terms.specs.declared.measure.BuildError.{BuildError}
 use Rattle.ath_terms.specs.SortsIn.{IsSortedIn}
 use Rattle.ath_terms.specs.Trees.{Trees, sent_at}
 use Rattle.ath_trees.specs.declared.node.Quant.{Quant}
-use Rattle.ath_trees.specs.declared.node.TermId.{TermId}
 use Rattle.ath_trees.specs.declared.node.SentId.{SentId}
 use Rattle.ath_trees.specs.declared.node.Var.{Var}
 use Rattle.ath_trees.specs.Tree.{Sent}
@@ -18,50 +17,14 @@ use Rattle.ath_env.specs.declared.value.Value as value
 use Rattle.ath_env.specs.declared.value.Value.TheVariants as code
 use Rattle.ath_env.specs.Stands.{IsIn, value_at}
 use Rattle.ath_env.specs.Values.{Value}
-use Rattle.ath_eval.specs.Applying.{Kinds, all_are, wrong_at, and_kind, kinds_of, part_of, variable_term, variable_in, but_last, the_last, quantified, quantified_over, quantifier_to, quantifier_applied}
+use Rattle.ath_eval.specs.Applying.{all_are, kinds_of, part_of, variable_in, but_last, the_last, quantified, quantified_over, quantifier_to, quantifier_applied}
 use Rattle.ath_eval.specs.Arguments.{values_at}
 use Rattle.ath_eval.specs.Laws.{IsSortedValue}
 use Rattle.ath_eval.proofs.Arguments.{values_end}
 use Rattle.ath_eval.proofs.ConnectiveLaws.{refused_same}
 use Rattle.ath_eval.proofs.Constructed.{IsSortedVariable, variable-sorted}
-use Rattle.ath_eval.proofs.KindLaws.{no_term, length_map}
+use Rattle.ath_eval.proofs.KindLaws.{length_map}
 use Rattle.ath_eval.proofs.Sound.{all-of}
-
--- ---- kinds one by one
-abbrev pub after_those : List Var → Kinds Var → Kinds Var
-after_those vs (all_are ws) = all_are (vs ++ ws)
-after_those vs (wrong_at i) = wrong_at i
-
-those_more : (vs : List Var) (v : Var) (i : ℕ) (k : Kinds Var) → after_those vs (and_kind i (Some v) k) ≡ after_those (vs ++ v ∷ []) k
-those_more vs v i (all_are ws) = ap all_are (sym (append_assoc vs (v ∷ []) ws))
-those_more vs v i (wrong_at j) = refl
-
-pub those_none : (k : Kinds Var) → k ≡ after_those [] k
-those_none (all_are ws) = refl
-those_none (wrong_at i) = refl
-
--- the kinds of the values from a number on
-abbrev pub kinds_from : Trees → ℕ → List value.Value → Kinds Var
-kinds_from s i vs = kinds_of variable_in (i + 1) (values_at s (drop i vs))
-
-module _ (s : Trees) (vs : List value.Value) where
-  -- a value after others that are variables
-  module _ (i : ℕ) (d : value.Value) (lt : i < length vs) (vars : List Var) (whole : Kinds Var) (inv : whole ≡ after_those vars (kinds_from s i vs)) where
-    at_here : whole ≡ after_those vars (and_kind (i + 1) (variable_in (value_at s (get_or vs i d))) (kinds_from s (i + 1) vs))
-    at_here =
-        let e : drop i vs ≡ get_or vs i d ∷ drop (i + 1) vs = rw add-one (drop-cons vs i d lt) in
-        let n : suc (i + 1) ≡ i + 1 + 1 = omega arith in
-        inv ∙ ap (λ (us : List value.Value). after_those vars (kinds_of variable_in (i + 1) (values_at s us))) e
-        ∙ ap (λ (k : ℕ). after_those vars (and_kind (i + 1) (variable_in (value_at s (get_or vs i d))) (kinds_of variable_in k (values_at s (drop (i + 1) vs))))) n
-
-    pub kind_next : (v : Var) → variable_in (value_at s (get_or vs i d)) ≡ Some v → whole ≡ after_those (vars ++ v ∷ []) (kinds_from s (i + 1) vs)
-    kind_next v e = at_here ∙ ap (λ (o : Option Var). after_those vars (and_kind (i + 1) o (kinds_from s (i + 1) vs))) e ∙ those_more vars v (i + 1) (kinds_from s (i + 1) vs)
-
-    pub kind_wrong : variable_in (value_at s (get_or vs i d)) ≡ None → whole ≡ wrong_at (i + 1)
-    kind_wrong e = at_here ∙ ap (λ (o : Option Var). after_those vars (and_kind (i + 1) o (kinds_from s (i + 1) vs))) e
-
-  pub kinds_done : (n : ℕ) (vars : List Var) (whole : Kinds Var) → length vs ≤ n → whole ≡ after_those vars (kinds_from s n vs) → whole ≡ all_are vars
-  kinds_done n vars whole le inv = inv ∙ ap (λ (us : List value.Value). after_those vars (kinds_of variable_in (n + 1) (values_at s us))) (drop_all n vs le) ∙ ap all_are (append-nil vars)
 
 -- ---- the variables that are found
 module _ (sig : Signature) (s : Trees) (sorted : IsSortedIn sig s) where
@@ -80,9 +43,6 @@ module _ (sig : Signature) (s : Trees) (sorted : IsSortedIn sig s) where
 
   pub variables_sorted : (vs : List value.Value) (xs : List Var) → All (IsIn s) vs → kinds_of variable_in 1 (values_at s vs) ≡ all_are xs → All (IsSortedVariable sig) xs
   variables_sorted vs xs h e = All-from_recursion (IsSortedVariable sig) xs (all-of variable_in (IsSortedValue sig) (IsSortedVariable sig) (variable-sorted sig) 1 (values_at s vs) xs (values_sorted vs h) e).0
-
-pub no_variable : (s : Trees) (v : value.Value) → ((t : TermId) → v ≡ code.Term t → ⊥) → variable_in (value_at s v) ≡ None
-no_variable s v h = ap variable_term (no_term s v h)
 
 -- ---- a variable after others
 module _ (sig : Signature) (q : Quant) where

@@ -1,7 +1,7 @@
 use Rattle.std.proofs.Common.{◌≡◌, length}
 use Rattle.ath_eval.specs.Applying.{kinds_of, variable_in}
 use Rattle.ath_eval.specs.Arguments.{values_at}
-use Rattle.ath_eval.proofs.QuantifierLaws.{after_those, kinds_from}
+use Rattle.ath_eval.proofs.KindLaws.{after_those, kinds_from}
 use Rattle.ath_eval.proofs.kinds.as_variables.Given as goal
 
 abbrev pub invariant-loop-arg : goal.invariant-loop-arg

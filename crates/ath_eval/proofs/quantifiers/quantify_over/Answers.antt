@@ -1,5 +1,4 @@
-use Rattle.std.proofs.Common.{◌≡◌, ◌-◌, true, refl, sym, subst, arith}
-use Rattle.ath_trees.specs.declared.node.Var.{Var}
+use Rattle.std.proofs.Common.{◌-◌, refl, sym, subst, arith}
 use Rattle.ath_terms.specs.Trees.{sent_at}
 use Rattle.ath_eval.proofs.Constructed.{IsSortedVariable}
 use Rattle.ath_eval.proofs.QuantifierLaws.{over_next, over_stopped}

@@ -26,7 +26,7 @@ module _ (s t : Trees) (g : Grows s t) where
   values_grow vs xs h = (all_in_grow vs h.0, same_values vs h.0 ∙ h.1)
 
 module _ (s : Trees) where
-  values_end : (vs : List value.Value) (v : value.Value) → values_at s (vs ++ v ∷ []) ≡ values_at s vs ++ value_at s v ∷ []
+  pub values_end : (vs : List value.Value) (v : value.Value) → values_at s (vs ++ v ∷ []) ≡ values_at s vs ++ value_at s v ∷ []
   values_end [] v = refl
   values_end (w ∷ vs) v = ap (λ (xs : List Value). value_at s w ∷ xs) (values_end vs v)
 

@@ -84,7 +84,7 @@ module _ (s t : Trees) (g : Grows s t) where
   piece_in_grows (piece.Sent i) h = is_in-kept s t (code.Sent i) g h
 
 -- what is refused where another is, with the same refusal
-refused_same : {A B : Type 0} (u : Trees) (a : Built A) (b : Built B) (e : BuildError) → ((why : Unbuilt) → a ≡ refuses why → b ≡ refuses why) → IsRefused u a e → IsRefused u b e
+pub refused_same : {A B : Type 0} (u : Trees) (a : Built A) (b : Built B) (e : BuildError) → ((why : Unbuilt) → a ≡ refuses why → b ≡ refuses why) → IsRefused u a e → IsRefused u b e
 refused_same u a b (SortClash l r) f h = f (clash (l, r)) h
 refused_same u a b (ArgCount want given) f h = f (counts want given) h
 refused_same u a b (NotBoolean t) f (x, h, is) = (x, f (not_boolean x) h, is)

@@ -16,6 +16,7 @@ anything c env = record {
   applies = λ f d vs ts n x is h l e b. tt;
   equates = λ v w s t x h k e f b. tt;
   connects = λ k vs xs x h e b. tt;
+  quantifies = λ q vs w xs y x h p e f b. tt;
   held = λ p i. tt;
   renames = λ p q e h. tt;
   detaches = λ p q h k. tt;

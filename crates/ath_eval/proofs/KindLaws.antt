@@ -3,6 +3,7 @@ use Rattle.std.proofs.Common.{◌≡◌, ℕ, suc, ◌+◌, ◌<◌, List, [], �
 use Rattle.std.specs.List.{All}
 use Rattle.std.proofs.lemmas.List.Elements.{All-nil, All-head, All-tail, All-cons}
 use Rattle.ath_trees.specs.declared.node.TermId.{TermId}
+use Rattle.ath_trees.specs.declared.node.Var.{Var}
 use Rattle.ath_trees.specs.Tree.{Term}
 use Rattle.ath_terms.specs.Trees.{Trees, term_at}
 use Rattle.ath_env.specs.declared.value.Value as value
@@ -11,11 +12,20 @@ use Rattle.ath_env.specs.Values.{term_of}
 use Rattle.ath_env.specs.Stands.{IsIn, value_at}
 use Rattle.ath_eval.specs.declared.kinds.Part.{Part as Piece}
 use Rattle.ath_eval.specs.declared.kinds.Part.TheVariants as piece
-use Rattle.ath_eval.specs.Applying.{Kinds, all_are, wrong_at, and_kind, kinds_of, Part, part_of}
+use Rattle.ath_eval.specs.Applying.{Kinds, all_are, wrong_at, and_kind, kinds_of, Part, part_of, variable_in}
 use Rattle.ath_eval.specs.Arguments.{IsPieceIn, values_at, piece_value, piece_tree, IsNoPiece}
 
 pub front_at : (vs front : List value.Value) (k : ℕ) (d : value.Value) → k < length vs → vs ≡ front ++ drop k vs → vs ≡ front ++ get_or vs k d ∷ drop (k + 1) vs
 front_at vs front k d h e = let f : drop k vs ≡ get_or vs k d ∷ drop (k + 1) vs = rw add-one (drop-cons vs k d h) in e ∙ ap (λ (rest : List value.Value). front ++ rest) f
+
+-- ---- variables, one by one
+abbrev pub after_those : List Var → Kinds Var → Kinds Var
+after_those vs (all_are ws) = all_are (vs ++ ws)
+after_those vs (wrong_at i) = wrong_at i
+
+-- what the values from a number on are
+abbrev pub kinds_from : Trees → ℕ → List value.Value → Kinds Var
+kinds_from s i vs = kinds_of variable_in (i + 1) (values_at s (drop i vs))
 
 module _ (s : Trees) where
   -- a value that is no term is none in the store
@@ -39,7 +49,7 @@ module _ (s : Trees) where
   wrong_term i [] v rest h = ap (λ (o : Option Term). and_kind i o (kinds_of term_of (suc i) (values_at s rest))) (no_term v h) ∙ (let n : i ≡ 0 + i = omega arith in ap (λ (k : ℕ). wrong_at k) n)
   wrong_term i (t ∷ ids) v rest h = ap (λ (k : Kinds Term). and_kind i (Some (term_at s.terms t.0)) k) (wrong_term (suc i) ids v rest h ∙ (let n : length ids + suc i ≡ suc (length ids) + i = omega arith in ap (λ (k : ℕ). wrong_at k) n))
 
-  no_part : (v : value.Value) → IsNoPiece v → part_of (value_at s v) ≡ None
+  pub no_part : (v : value.Value) → IsNoPiece v → part_of (value_at s v) ≡ None
   no_part (code.Term t) h = absurd (h (piece.Term t) refl)
   no_part (code.Sent p) h = absurd (h (piece.Sent p) refl)
   no_part (code.Symbol f) h = refl

@@ -10,6 +10,7 @@ pub mod Kept
 pub mod KindLaws
 pub mod NameLaws
 pub mod Ponens
+pub mod QuantifierLaws
 pub mod Regular
 pub mod Resuming
 pub mod Shapes

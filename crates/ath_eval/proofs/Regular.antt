@@ -16,6 +16,8 @@ use Rattle.ath_syntax.specs.Tree.{Phrase, name_at, variable_at, ascribe_at, appl
 use Rattle.ath_declarations.specs.Texts.{meaning}
 use Rattle.ath_terms.specs.declared.fresh.Fresh.{Fresh}
 use Rattle.ath_trees.specs.declared.node.Conn.{Conn}
+use Rattle.ath_trees.specs.declared.node.Quant.{Quant}
+use Rattle.ath_trees.specs.declared.node.Var.{Var as Variable}
 use Rattle.ath_trees.specs.declared.node.Binary.TheVariants.{If}
 use Rattle.ath_trees.specs.SortsIn.{sort_in}
 use Rattle.ath_construction.specs.Construction.{wanted, takes, Built, builds, refuses, made_app, made_equation, made_ascription}
@@ -30,7 +32,7 @@ use Rattle.ath_print.specs.Events.{Refusal}
 use Rattle.ath_base.specs.Base.{Entry, holds, sentences}
 use Rattle.ath_print.specs.declared.fault.FaultKind.TheVariants.{TooNested}
 use Rattle.ath_eval.specs.Outcomes.{Context, Environment, Left, left_of, Outcome, gives, concludes, fails, exhausts, refusal, Evaluator, spending, and_then, each}
-use Rattle.ath_eval.specs.Applying.{gives_term, gives_sentence, Kinds, all_are, wrong_at, kinds_of, after_params, symbol_to, symbol_applied, miscounted, equation_to, equated, Part, part_of, sentences_made, connective_of, connective_to, connective_applied, symbol_or_equation, itself, applied, symbol_named, value_named}
+use Rattle.ath_eval.specs.Applying.{gives_term, gives_sentence, Kinds, all_are, wrong_at, kinds_of, after_params, symbol_to, symbol_applied, miscounted, equation_to, equated, Part, part_of, sentence_made, sentences_made, connective_of, connective_to, connective_applied, variable_in, but_last, the_last, quantified_over, quantifier_to, quantifier_applied, symbol_or_equation, itself, applied, symbol_named, value_named}
 use Rattle.ath_eval.specs.Methods.{wrong_shape, if_held, claim, detached, modus_ponens, mp, claimed, ponens, called}
 use Rattle.ath_eval.specs.Evaluation.{found, variable, with_sort, ascribed_to, ascribed, form, evaluated}
 use Rattle.ath_syntax.specs.Places.{place}
@@ -54,6 +56,7 @@ pub record IsKept (c : Context) (env : Environment) (P : Value → Type 0) (Q : 
   pub applies : (f : Sym) (d : Symbol) (vs : List Value) (ts : List Term) (n : ℕ) (x : Term) → symbol_of c.theory.signature f ≡ Some d → AllByRecursion P vs → length d.args ≡ length vs → kinds_of term_of 1 vs ≡ all_are ts → made_app c.theory.signature n d ts ≡ builds x → P (a_term x (sort_in c.theory.signature x))
   pub equates : (v w : Value) (s t : Term) (x : Sent) → P v → P w → term_of v ≡ Some s → term_of w ≡ Some t → made_equation c.theory.signature s t ≡ builds x → P (a_sentence x)
   pub connects : (k : Conn) (vs : List Value) (xs : List Part) (x : Sent) → AllByRecursion P vs → kinds_of part_of 1 vs ≡ all_are xs → connective_of c.theory.signature k (sentences_made c.theory.signature xs) ≡ builds x → P (a_sentence x)
+  pub quantifies : (q : Quant) (vs : List Value) (w : Value) (xs : List Variable) (y : Part) (x : Sent) → AllByRecursion P vs → P w → kinds_of variable_in 1 vs ≡ all_are xs → part_of w ≡ Some y → quantified_over c.theory.signature q xs (sentence_made c.theory.signature y) ≡ builds x → P (a_sentence x)
   pub held : (p : Sent) → IsAmong p (sentences env.base) → Q p
   pub renames : (p q : Sent) → AlphaEqual p q → Q p → Q q
   pub detaches : (p q : Sent) → Q (joined If p q) → Q p → Q q
@@ -129,6 +132,14 @@ all-last : (P : Value → Type 0) (vs : List Value) (v : Value) → AllByRecursi
 all-last P [] v h p = (p, tt)
 all-last P (w ∷ vs) v h p = (h.0, all-last P vs v h.1 p)
 
+all-but-last : (P : Value → Type 0) (v : Value) (vs : List Value) → P v → AllByRecursion P vs → AllByRecursion P (but_last v vs)
+all-but-last P v [] p h = tt
+all-but-last P v (w ∷ vs) p h = (p, all-but-last P w vs h.0 h.1)
+
+the-last : (P : Value → Type 0) (v : Value) (vs : List Value) → P v → AllByRecursion P vs → P (the_last v vs)
+the-last P v [] p h = p
+the-last P v (w ∷ vs) p h = the-last P w vs h.0 h.1
+
 module _ (c : Context) (env : Environment) (P : Value → Type 0) (Q : Sent → Type 0) (closed : IsKept c env P Q) where
   abbrev Regular : Fresh → (ℕ → Outcome) → Type 0
   Regular fresh f = IsRegular c.theory.signature P Q 1 fresh f
@@ -199,6 +210,16 @@ module _ (c : Context) (env : Environment) (P : Value → Type 0) (Q : Sent → 
       go true = connective_to-regular q vs at fresh h (kinds_of part_of 1 vs) refl
       go false = error-regular fresh
 
+  quantifier_to-regular : (q : Quant) (m : ℕ) (vs : List Value) (w : Value) (at : Pos) (fresh : Fresh) → AllByRecursion P vs → P w → (k : Kinds Variable) (o : Option Part) → kinds_of variable_in 1 vs ≡ k → part_of w ≡ o → Regular fresh (λ n. quantifier_to c.theory.signature q m k o at (left_of n fresh))
+  quantifier_to-regular q m vs w at fresh h p (wrong_at i) o e f = error-regular fresh
+  quantifier_to-regular q m vs w at fresh h p (all_are xs) None e f = error-regular fresh
+  quantifier_to-regular q m vs w at fresh h p (all_are xs) (Some y) e f = sent-regular (quantified_over c.theory.signature q xs (sentence_made c.theory.signature y)) at fresh (λ x b. closed.quantifies q vs w xs y x h p e f b)
+
+  quantifier-regular : (q : Quant) (vs : List Value) (at : Pos) (fresh : Fresh) → AllByRecursion P vs → Regular fresh (λ n. quantifier_applied c.theory.signature q vs at (left_of n fresh))
+  quantifier-regular q (v ∷ w ∷ vs) at fresh h =
+      quantifier_to-regular q (length (v ∷ w ∷ vs)) (but_last v (w ∷ vs)) (the_last w vs) at fresh (all-but-last P v (w ∷ vs) h.0 h.1) (the-last P w vs h.1.0 h.1.1) (kinds_of variable_in 1 (but_last v (w ∷ vs))) (part_of (the_last w vs)) refl refl
+  quantifier-regular q vs at fresh h = error-regular fresh
+
   either-regular : (f : Sym) (o : Option Symbol) (vs : List Value) (at : Pos) (fresh : Fresh) → symbol_of c.theory.signature f ≡ o → AllByRecursion P vs → Regular fresh (λ n. symbol_or_equation c.theory.signature o vs at (left_of n fresh))
   either-regular f (Some d) vs at fresh is h = symbol-regular f d vs at fresh is h
   either-regular f None vs at fresh is h = equated-regular vs at fresh h
@@ -212,7 +233,7 @@ module _ (c : Context) (env : Environment) (P : Value → Type 0) (Q : Sent → 
   applied-regular rec (a_connective q) vs at fresh p h = connective-regular q vs at fresh h
   applied-regular rec (a_term t r) vs at fresh p h = itself-regular (a_term t r) vs at fresh p
   applied-regular rec (a_sentence q) vs at fresh p h = itself-regular (a_sentence q) vs at fresh p
-  applied-regular rec (a_quantifier q) vs at fresh p h = error-regular fresh
+  applied-regular rec (a_quantifier q) vs at fresh p h = quantifier-regular q vs at fresh h
   applied-regular rec a_back vs at fresh p h = error-regular fresh
   applied-regular rec (a_method m) vs at fresh p h = error-regular fresh
 

@@ -34,12 +34,12 @@ use Rattle.ath_eval.specs.declared.world.Outcome.TheVariants as ends
 use Rattle.ath_eval.specs.Evaluation.{evaluated}
 use Rattle.ath_base.specs.Base.{sentences}
 use Rattle.ath_eval.specs.Outcomes.{Context, Environment, left_of, Outcome, gives, concludes, fails, exhausts}
-use Rattle.ath_eval.specs.Applying.{Kinds, all_are, wrong_at, and_kind, kinds_of, Part, term_part, sentence_part, part_of}
+use Rattle.ath_eval.specs.Applying.{Kinds, all_are, wrong_at, and_kind, kinds_of, Part, term_part, sentence_part, part_of, variable_in}
 use Rattle.ath_eval.specs.Laws.{ConclusionsFollow, IsSortedValue, ValuesAreSorted}
 use Rattle.ath_eval.specs.World.{IsOutcome, IsDerivable}
 use Rattle.ath_eval.proofs.Regular.{Yields, IsKept, evaluated-regular}
 use Rattle.ath_construction.proofs.SortedLaws.{IsSorted, own-sort, ascription-sorted, equation-sorted, application-sorted}
-use Rattle.ath_eval.proofs.Constructed.{IsSortedPart, joined-sorted}
+use Rattle.ath_eval.proofs.Constructed.{IsSortedPart, joined-sorted, IsSortedVariable, variable-sorted, bound-sorted}
 
 -- ---- conclusions
 follows : (c : Context) (env : Environment) (asserted hyps : List Sent) → AreDerivable c.theory asserted hyps (sentences env.base) → IsKept c env (λ v. Unit {0}) (Derives c.theory asserted hyps)
@@ -52,6 +52,7 @@ follows c env asserted hyps sound = record {
   applies = λ f d vs ts n x is h l e b. tt;
   equates = λ v w s t x h k e f b. tt;
   connects = λ k vs xs x h e b. tt;
+  quantifies = λ q vs w xs y x h p e f b. tt;
   held = sound;
   renames = λ p q e d. alpha e d;
   detaches = λ p q d e. if_elim d e;
@@ -76,10 +77,10 @@ theorem-derivable c env asserted hyps levels x fuel more fresh made s o sound h 
 
 -- ---- values
 -- where values have a property, what they are has one
-abbrev AreAll : {T : Type 0} → (T → Type 0) → List Value → List T → Type 0
+abbrev pub AreAll : {T : Type 0} → (T → Type 0) → List Value → List T → Type 0
 AreAll R vs xs = AllByRecursion R xs × (length vs ≡ length xs)
 
-all-of : {T : Type 0} (f : Value → Option T) (P : Value → Type 0) (R : T → Type 0) → ((v : Value) (x : T) → P v → f v ≡ Some x → R x) → (i : ℕ) (vs : List Value) (xs : List T) → AllByRecursion P vs → kinds_of f i vs ≡ all_are xs → AreAll R vs xs
+pub all-of : {T : Type 0} (f : Value → Option T) (P : Value → Type 0) (R : T → Type 0) → ((v : Value) (x : T) → P v → f v ≡ Some x → R x) → (i : ℕ) (vs : List Value) (xs : List T) → AllByRecursion P vs → kinds_of f i vs ≡ all_are xs → AreAll R vs xs
 all-of f P R each i [] xs h e = let k : [] ≡ xs = cc in subst (AreAll R []) k (tt, refl)
 all-of f P R each i (v ∷ vs) xs h e = go (f v) (kinds_of f (suc i) vs) (λ x g. each v x h.0 g) (λ ys g. all-of f P R each (suc i) vs ys h.1 g) e
   where
@@ -166,6 +167,7 @@ module _ (c : Context) (env : Environment) (asserted hyps : List Sent) (valid : 
     applies = λ f d vs ts n x is h l e b. application d vs ts n x (own-name f d is) l (all-of term_of Sorted HasOwn term-of 1 vs ts h e) b;
     equates = λ v w s t x h k e f b. equation-sorted c.theory.signature valid there s t x (term-of v s h e) (term-of w t k f) b;
     connects = λ k vs xs x h e b. joined-sorted c.theory.signature valid there k xs x (all-of part_of Sorted HasOwnPart part-of 1 vs xs h e).0 b;
+    quantifies = λ q vs w xs y x h p e f b. bound-sorted c.theory.signature valid there q xs y x (all-of variable_in Sorted (IsSortedVariable c.theory.signature) (variable-sorted c.theory.signature) 1 vs xs h e).0 (part-of w y p f) b;
     held = sound;
     renames = λ p q e d. alpha e d;
     detaches = λ p q d e. if_elim d e;

@@ -1,5 +1,5 @@
--- Applications to values: of a declared symbol, of `=`, and of a connective. Refusals come in this order: the number of
--- arguments; the first argument of another kind; what the construction refuses.
+-- Applications to values: of a declared symbol, of `=`, of a connective, and of a quantifier. Refusals come in this order: the
+-- number of arguments; the first argument of another kind; what the construction refuses.
 use Rattle.std.specs.Prelude.{ℕ, suc, ◌+◌, ◌==◌, List, [], ◌∷◌, length, Option, Some, None, if◌then◌else◌}
 use Rattle.ath_sorts.specs.declared.sorts.Sym.{Sym}
 use Rattle.ath_sorts.specs.declared.signature.Symbol.{Symbol}
@@ -7,11 +7,13 @@ use Rattle.ath_sorts.specs.Signature.{Signature, symbol_of}
 use Rattle.ath_syntax.specs.declared.place.Pos.{Pos}
 use Rattle.ath_terms.specs.declared.fresh.Fresh.{Fresh}
 use Rattle.ath_trees.specs.declared.node.Conn.{Conn}
-use Rattle.ath_trees.specs.Tree.{Term, Sent}
+use Rattle.ath_trees.specs.declared.node.Quant.{Quant}
+use Rattle.ath_trees.specs.declared.node.Var.{Var}
+use Rattle.ath_trees.specs.Tree.{Term, var, app, Sent}
 use Rattle.ath_trees.specs.SortsIn.{sort_in}
-use Rattle.ath_construction.specs.Construction.{Built, builds, refuses, made_app, made_equation, made_atom, made_connective, wanted, takes}
+use Rattle.ath_construction.specs.Construction.{Built, builds, refuses, made_app, made_equation, made_atom, made_connective, made_quantifier, wanted, takes}
 use Rattle.ath_env.specs.Values.{Value, a_term, a_sentence, a_symbol, a_connective, a_quantifier, a_back, a_method, term_of}
-use Rattle.ath_print.specs.declared.fault.FaultKind.TheVariants.{ArgCount, WrongKind, NotApplicable, NotBuilt}
+use Rattle.ath_print.specs.declared.fault.FaultKind.TheVariants.{ArgCount, WrongKind, NotApplicable}
 use Rattle.ath_print.specs.Events.{number_named}
 use Rattle.ath_eval.specs.Outcomes.{Context, Environment, Left, Outcome, Evaluator, gives, fails, refusal}
 use Rattle.ath_eval.specs.Building.{told}
@@ -110,6 +112,45 @@ connective_to sig c (all_are xs) = gives_sentence (connective_of sig c (sentence
 abbrev pub connective_applied : Signature → Conn → List Value → Pos → Left → Outcome
 connective_applied sig c vs = if takes c (length vs) then connective_to sig c (kinds_of part_of 1 vs) else miscounted (wanted c) vs
 
+-- ---- a quantifier: its arguments but the last are variables, at the sorts that they have; the last is what they bind
+abbrev pub variable_term : Option Term → Option Var
+variable_term None = None
+variable_term (Some (var v)) = Some v
+variable_term (Some (app f sorts args)) = None
+
+-- the variable that a value is, where it is one
+abbrev pub variable_in : Value → Option Var
+variable_in v = variable_term (term_of v)
+
+-- of a value and those after it all but the last one, and the last one
+abbrev pub but_last : Value → List Value → List Value
+but_last v [] = []
+but_last v (w ∷ vs) = v ∷ but_last w vs
+
+abbrev pub the_last : Value → List Value → Value
+the_last v [] = v
+the_last v (w ∷ vs) = the_last w vs
+
+abbrev pub quantified : Signature → Quant → Var → Built Sent → Built Sent
+quantified sig q v (refuses why) = refuses why
+quantified sig q v (builds p) = made_quantifier sig q v p
+
+-- from the last variable outward, a construction for each
+abbrev pub quantified_over : Signature → Quant → List Var → Built Sent → Built Sent
+quantified_over sig q [] body = body
+quantified_over sig q (v ∷ vs) body = quantified sig q v (quantified_over sig q vs body)
+
+-- n is the number of the last argument, whose term is made an atom before anything is bound
+abbrev pub quantifier_to : Signature → Quant → ℕ → Kinds Var → Option Part → Pos → Left → Outcome
+quantifier_to sig q n (wrong_at i) x = wrong_kind i
+quantifier_to sig q n (all_are vs) None = wrong_kind n
+quantifier_to sig q n (all_are vs) (Some x) = gives_sentence (quantified_over sig q vs (sentence_made sig x))
+
+abbrev pub quantifier_applied : Signature → Quant → List Value → Pos → Left → Outcome
+quantifier_applied sig q (v ∷ w ∷ vs) =
+    quantifier_to sig q (length (v ∷ w ∷ vs)) (kinds_of variable_in 1 (but_last v (w ∷ vs))) (part_of (the_last w vs))
+quantifier_applied sig q vs = miscounted 2 vs
+
 -- ---- any head
 abbrev pub not_applicable : Pos → Left → Outcome
 not_applicable at = fails at (refusal NotApplicable [])
@@ -130,7 +171,7 @@ applied c rec env (a_symbol f) vs = symbol_or_equation c.theory.signature (symbo
 applied c rec env (a_connective k) vs = connective_applied c.theory.signature k vs
 applied c rec env (a_term t r) vs = itself (a_term t r) vs
 applied c rec env (a_sentence p) vs = itself (a_sentence p) vs
-applied c rec env (a_quantifier q) vs = λ at. fails at (refusal NotBuilt [])
+applied c rec env (a_quantifier q) vs = quantifier_applied c.theory.signature q vs
 applied c rec env a_back vs = not_applicable
 applied c rec env (a_method n) vs = not_applicable
 

@@ -3,6 +3,7 @@ use Rattle.std.specs.Prelude.{ℕ, ◌≡◌, ◌<◌, ◌+◌, List, ◌∷◌,
 use Rattle.ath_sorts.specs.declared.signature.Symbol.{Symbol}
 use Rattle.ath_trees.specs.declared.node.TermId.{TermId}
 use Rattle.ath_trees.specs.declared.node.SentId.{SentId}
+use Rattle.ath_trees.specs.declared.node.Var.{Var}
 use Rattle.ath_trees.specs.declared.node.Binary.TheVariants.{If}
 use Rattle.ath_trees.specs.Tree.{Sent, joined}
 use Rattle.ath_terms.specs.Trees.{Trees, term_at, sent_at}
@@ -16,7 +17,9 @@ use Rattle.ath_eval.specs.declared.kinds.Parts.{Parts}
 use Rattle.ath_eval.specs.declared.kinds.Parts.TheVariants as parts
 use Rattle.ath_eval.specs.declared.kinds.Terms.{Terms}
 use Rattle.ath_eval.specs.declared.kinds.Terms.TheVariants as terms
-use Rattle.ath_eval.specs.Applying.{Part, term_part, sentence_part}
+use Rattle.ath_eval.specs.declared.kinds.Variables.{Variables}
+use Rattle.ath_eval.specs.declared.kinds.Variables.TheVariants as variables
+use Rattle.ath_eval.specs.Applying.{Kinds, all_are, wrong_at, Part, term_part, sentence_part}
 
 -- the numbers of the parts of an implication, where it is one
 abbrev pub AreParts : Trees → Sent → Option (SentId × SentId) → Type 0
@@ -31,6 +34,11 @@ abbrev pub MatchTerms : List value.Value → Terms → Type 0
 MatchTerms vs (terms.All ids) = vs ≡ map (λ t. code.Term t) ids.items
 MatchTerms vs (terms.Wrong i) =
     (ids : List TermId) × (v : value.Value) × (rest : List value.Value) × (vs ≡ map (λ t. code.Term t) ids ++ v ∷ rest) × ((t : TermId) → v ≡ code.Term t → ⊥) × (i ≡ length ids + 1)
+
+-- the variables that the arguments are, or the number of the first that is none
+abbrev pub kinds_found : Variables → Kinds Var
+kinds_found (variables.All vs) = all_are vs.items
+kinds_found (variables.Wrong i) = wrong_at i
 
 -- a part of a connective as a value, and as a tree
 abbrev pub piece_value : Piece → value.Value

@@ -5,6 +5,7 @@ ghost use Rattle.std.specs.List.{All};
 ghost use Rattle.ath_sorts.specs.declared.sorts.Sym.{Sym as Symbol};
 ghost use Rattle.ath_syntax.specs.Fits.{most};
 ghost use Rattle.ath_trees.specs.declared.node.Conn.{Conn as Connective};
+ghost use Rattle.ath_trees.specs.declared.node.Quant.{Quant as Quantifier};
 ghost use Rattle.ath_terms.specs.Trees.{Trees};
 ghost use Rattle.ath_env.specs.Stands.{IsIn, value_at};
 ghost use Rattle.ath_eval.specs.Applying.{applied};
@@ -17,6 +18,7 @@ ghost use Rattle.ath_eval.specs.World.{IsAnswerIn, IsSteady, Works, Rests, HasRo
 
 use crate::connectives::apply_connective;
 use crate::methods::{claim, mp};
+use crate::quantifiers::apply_quantifier;
 use crate::refusals::{bare, miscounted};
 use crate::symbols::apply_symbol;
 use crate::world::{Outcome, World};
@@ -49,20 +51,24 @@ pub(crate) fn apply(
             let outcome = apply_connective(alloc, w, conn, args, at)?;
             Ok(outcome)
         }
+        Value::Quant(q) => {
+            let outcome = apply_quantifier(alloc, w, q, args, at)?;
+            Ok(outcome)
+        }
         other => Ok(apply_other(alloc, other, args, at)),
     }
 }
 
-/// An application of what is neither a symbol nor a connective. A term and a sentence take no arguments.
+/// An application of what is no symbol, no connective and no quantifier. A term and a sentence take no arguments.
 fn apply_other(alloc: Global, head: Value, args: &[Value], at: Pos) -> Outcome
     requires symbol { (f : Symbol) → head ≡ Value.Symbol f → ⊥ }
     requires connective { (k : Connective) → head ≡ Value.Conn k → ⊥ }
+    requires quantifier { (q : Quantifier) → head ≡ Value.Quant q → ⊥ }
     ensures { (s : Trees) (c : Context) (r : Evaluator) (e : Environment) → IsIn s head → IsSteady s result (applied c r e (value_at s head) (values_at s args.now) at) }
 {
     match head {
         Value::Term(_) => itself(alloc, head, args, at),
         Value::Sent(_) => itself(alloc, head, args, at),
-        Value::Quant(_) => bare(alloc, FaultKind::NotBuilt, at),
         _other => bare(alloc, FaultKind::NotApplicable, at),
     }
 }

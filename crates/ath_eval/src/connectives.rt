@@ -25,7 +25,7 @@ use ath_trees::{Conn, SentId};
 use std::alloc::{AllocError, Global};
 
 /// The sentence that a part is: a term is made an atom.
-fn sentence_of(alloc: Global, w: &mut World, part: Part) -> Result<SentId, BuildError>
+pub(crate) fn sentence_of(alloc: Global, w: &mut World, part: Part) -> Result<SentId, BuildError>
     requires { IsPieceIn w.old.store part }
     ensures rests { Rests w.old w.new }
     ensures built { IsSentBuilt w.new.store (applying.sentence_made w.old.sig (piece_tree w.old.store part)) result }

@@ -1,13 +1,17 @@
 // The kinds of arguments.
 
 ghost use Rattle.std.specs.Prelude.{◌≡◌, IfOk, IfSome, option_map};
+ghost use Rattle.std.specs.List.{All};
 ghost use Rattle.ath_terms.specs.Trees.{Trees, term_at};
-ghost use Rattle.ath_env.specs.Stands.{value_at};
+ghost use Rattle.ath_env.specs.Stands.{IsIn, value_at};
 ghost use Rattle.ath_env.specs.Values.{term_of};
-ghost use Rattle.ath_eval.specs.Arguments.{MatchTerms, MatchPiece, MatchParts};
+ghost use Rattle.ath_eval.specs.Applying.{kinds_of, variable_in};
+ghost use Rattle.ath_eval.specs.Arguments.{MatchTerms, MatchPiece, MatchParts, values_at, kinds_found};
 
 use ath_env::Value;
-use ath_trees::{SentId, TermId};
+use ath_terms::found::copied_var;
+use ath_terms::{Store, TermNode};
+use ath_trees::{SentId, TermId, Var};
 use std::alloc::{AllocError, Global};
 
 /// Arguments that are terms, or the number of the first that is none, from 1.
@@ -28,6 +32,13 @@ pub(crate) enum Part {
 #[derive(Debug, Drop)]
 pub(crate) enum Parts {
     All(Vec<Part>),
+    Wrong(u64),
+}
+
+/// Arguments that are variables, or the number of the first that is none, from 1.
+#[derive(Debug, Drop)]
+pub(crate) enum Variables {
+    All(Vec<Var>),
     Wrong(u64),
 }
 
@@ -62,7 +73,7 @@ pub(crate) fn as_terms(alloc: Global, args: &[Value]) -> Result<Terms, AllocErro
 }
 
 /// The part that a value is, where it is one.
-fn as_part(value: Value) -> Option<Part>
+pub(crate) fn as_part(value: Value) -> Option<Part>
     ensures { MatchPiece value result }
 {
     match value {
@@ -84,4 +95,37 @@ pub(crate) fn as_parts(alloc: Global, args: &[Value]) -> Result<Parts, AllocErro
         }
     }
     Ok(Parts::All(found))
+}
+
+/// The variable that a value is, where it is one.
+fn as_variable(alloc: Global, store: &Store, value: Value) -> Result<Option<Var>, AllocError>
+    requires { IsIn store.now value }
+    ensures { IfOk result (λ v. variable_in (value_at store.now value) ≡ v) }
+{
+    let Value::Term(t) = value else {
+        return Ok(None);
+    };
+    match store.term(t) {
+        TermNode::Var(v) => Ok(Some(copied_var(alloc, v)?)),
+        TermNode::App(..) => Ok(None),
+    }
+}
+
+/// The variables that the arguments are.
+pub(crate) fn as_variables(
+    alloc: Global,
+    store: &Store,
+    args: &[Value],
+) -> Result<Variables, AllocError>
+    requires { All (IsIn store.now) args.now }
+    ensures { IfOk result (λ found. kinds_of variable_in 1 (values_at store.now args.now) ≡ kinds_found found) }
+{
+    let mut vars: Vec<Var> = Vec::new(alloc);
+    for arg in args {
+        match as_variable(alloc, store, *arg)? {
+            Some(v) => vars.push(v)?,
+            None => return Ok(Variables::Wrong(vars.len() as u64 + 1)),
+        }
+    }
+    Ok(Variables::All(vars))
 }

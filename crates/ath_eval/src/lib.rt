@@ -11,6 +11,7 @@ mod machine;
 mod methods;
 mod names;
 mod parts;
+mod quantifiers;
 mod refusals;
 mod symbols;
 pub mod world;

@@ -1,4 +1,4 @@
-use Rattle.ath_eval.specs.Applying.{connective_applied}
+use Rattle.ath_eval.specs.Applying.{connective_applied, quantifier_applied}
 use Rattle.ath_eval.specs.Arguments.{values_at}
 use Rattle.ath_eval.specs.World.{context_of, environment_of}
 use Rattle.ath_eval.proofs.Worlds.{works_none, rests_works, steady_answers}
@@ -17,6 +17,17 @@ pub returns-in_ok-outcome-in-Conn-clause-outcome : goal.returns-in_ok-outcome-in
 returns-in_ok-outcome-in-Conn-clause-outcome c = λ rec. let o = c.in_ok-outcome-in-Conn in
     let a = c.args in let w = a.w.now in
     rw c.in-Conn.is (steady_answers w c.apply_connective.new.w o.outcome (connective_applied w.sig c.in-Conn.conn (values_at w.store a.args.now) a.at) o.ensures.rests o.ensures.outcome)
+
+pub returns-in_err-outcome-in-Quant-clause-works : goal.returns-in_err-outcome-in-Quant-clause-works
+returns-in_err-outcome-in-Quant-clause-works c = rests_works c.args.w.now c.apply_quantifier.new.w c.in_err-outcome-in-Quant.ensures.rests
+
+pub returns-in_ok-outcome-in-Quant-clause-works : goal.returns-in_ok-outcome-in-Quant-clause-works
+returns-in_ok-outcome-in-Quant-clause-works c = rests_works c.args.w.now c.apply_quantifier.new.w c.in_ok-outcome-in-Quant.ensures.rests
+
+pub returns-in_ok-outcome-in-Quant-clause-outcome : goal.returns-in_ok-outcome-in-Quant-clause-outcome
+returns-in_ok-outcome-in-Quant-clause-outcome c = λ rec. let o = c.in_ok-outcome-in-Quant in
+    let a = c.args in let w = a.w.now in
+    rw c.in-Quant.is (steady_answers w c.apply_quantifier.new.w o.outcome (quantifier_applied w.sig c.in-Quant.q (values_at w.store a.args.now) a.at) o.ensures.rests o.ensures.outcome)
 
 pub returns-in_default : goal.returns-in_default
 returns-in_default c = let w = c.args.w.now in record {

@@ -23,6 +23,7 @@ use Rattle.ath_trees.specs.declared.node.Var.{Var}
 use Rattle.ath_trees.specs.declared.node.Conn.TheVariants.{Not, And, Or, If, Iff}
 use Rattle.ath_trees.specs.Tree.{Term, app, listed, Sent}
 use Rattle.ath_trees.specs.declared.limits.TheConstants.{MOST_TERM_NODES, MOST_TERM_LEVELS}
+use Rattle.ath_trees.specs.Measure.{sent_size, sent_depth}
 use Rattle.ath_trees.specs.SortsIn.{sort_in}
 use Rattle.ath_trees.specs.Under.{term_under, terms_under}
 use Rattle.ath_trees.specs.Variables.{with_term, with_terms, with_sent, with_sents, free_vars}
@@ -194,7 +195,7 @@ module _ (sig : Signature) where
     where
       go : (b : Built Sent) → ((q : Sent) → b ≡ builds q → IsWellSorted sig q) → closed_one v b ≡ builds x → IsWellSorted sig x
       go (refuses why) f m = absurd (cc)
-      go (builds q) f m = subst (IsWellSorted sig) (sym (within-is (closed_over Forall v q) x _ m)) (closed-sorted sig Forall v q h.0 (f q refl))
+      go (builds q) f m = subst (IsWellSorted sig) (sym (within-is (closed_over Forall v q) x (record { small = true; nodes = sent_size (closed_over Forall v q); levels = sent_depth (closed_over Forall v q) }) m)) (closed-sorted sig Forall v q h.0 (f q refl))
 
   pub closure-sorted : (p x : Sent) → IsWellSorted sig p → universal_closure p ≡ builds x → IsWellSorted sig x
   closure-sorted p x w e = turned-sorted (free_vars p) p x (sent_vars-valid sig [] p tt w) w e

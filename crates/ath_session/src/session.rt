@@ -116,6 +116,7 @@ fn to_assert(
 ) -> Result<SentId, BuildError>
     requires { p.0 < length store.old.sents }
     ensures grows { Grows store.old store.new }
+    ensures inside { IfOk result (λ r. r.0 < length store.new.sents) }
     ensures built { IsSentBuilt store.new (to_assert closed (sent_at store.old.sents p.0)) result }
     ensures sorted { (sig : Declared) → IsSortedIn sig store.old → IsSortedIn sig store.new }
 {

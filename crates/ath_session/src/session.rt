@@ -324,12 +324,7 @@ impl Session {
     }
 
     /// Asserts the sentence of a phrase, or its universal closure.
-    fn assert(
-        &mut self,
-        alloc: Global,
-        closed: bool,
-        phrase: PhraseId,
-    ) -> Result<Reply, AllocError>
+    fn assert(&mut self, alloc: Global, closed: bool, phrase: PhraseId) -> Result<Reply, AllocError>
         requires phrase { (x : Phrase) × IsPhrase self.old.world.phrases phrase x }
         ensures numbers { KeepsNumbers self.old.world self.new.world }
         ensures reply { IfOk result (λ r. (x : Phrase) → IsPhrase self.old.world.phrases phrase x → IsReply self.new.world r (asserting (state_of self.old.world) closed (place x) (outcome_in (state_of self.old.world) x))) }

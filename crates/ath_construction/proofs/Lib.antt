@@ -11,3 +11,4 @@ pub mod QuantifierLaws
 pub mod MeasureLaws
 pub mod ConnectiveLaws
 pub mod SortedLaws
+pub mod ClosureLaws

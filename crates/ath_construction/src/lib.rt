@@ -2,6 +2,7 @@
 #![tactic(auto)]
 
 pub mod application;
+pub mod closure;
 pub mod connectives;
 pub mod equations;
 pub mod pairs;
@@ -11,6 +12,7 @@ pub mod term;
 mod tests;
 
 pub use application::app;
+pub use closure::universal_closure;
 pub use connectives::connective;
 pub use equations::equation;
 pub use quantifiers::quantify;

@@ -18,22 +18,26 @@ use Rattle.ath_trees.specs.declared.node.Conn.{Conn}
 use Rattle.ath_trees.specs.declared.node.Binary.{Binary}
 use Rattle.ath_trees.specs.declared.node.Binary.TheVariants as binary
 use Rattle.ath_trees.specs.declared.node.Quant.{Quant}
+use Rattle.ath_trees.specs.declared.node.Quant.TheVariants.{Forall}
 use Rattle.ath_trees.specs.declared.node.Var.{Var}
 use Rattle.ath_trees.specs.declared.node.Conn.TheVariants.{Not, And, Or, If, Iff}
 use Rattle.ath_trees.specs.Tree.{Term, app, listed, Sent}
 use Rattle.ath_trees.specs.declared.limits.TheConstants.{MOST_TERM_NODES, MOST_TERM_LEVELS}
+use Rattle.ath_trees.specs.Measure.{sent_size, sent_depth}
 use Rattle.ath_trees.specs.SortsIn.{sort_in}
 use Rattle.ath_trees.specs.Under.{term_under, terms_under}
-use Rattle.ath_trees.specs.Variables.{with_term, with_terms, with_sent, with_sents}
+use Rattle.ath_trees.specs.Variables.{with_term, with_terms, with_sent, with_sents, free_vars}
+use Rattle.ath_trees.specs.Closing.{closed_over}
 use Rattle.ath_trees.specs.WellSorted.{has_arity, is_valid_sort, HasSort, app_has, HaveSorts, none_has, more_has, IsWellSorted, AreWellSorted}
 use Rattle.ath_construction.specs.Construction.{Plan, made_sorts, variable_pairs, app_plan, equation_plan, ascription_plan, atom_plan, connective_plan, quantifier_plan, grouped, connected, takes, wanted, term_measure, sent_measure}
-use Rattle.ath_construction.specs.Construction.{builds, refuses, counts, sort_above, nodes_above, levels_above, within, by_unifier, constructed, made_app, made_equation, made_ascription, atom_by, made_atom, made_connective, made_quantifier}
+use Rattle.ath_construction.specs.Closure.{closed_one, closed_in_turn, universal_closure}
+use Rattle.ath_construction.specs.Construction.{Built, builds, refuses, counts, sort_above, nodes_above, levels_above, within, by_unifier, constructed, made_app, made_equation, made_ascription, atom_by, made_atom, made_connective, made_quantifier}
 use Rattle.ath_terms.specs.Limits.{Measure}
 use Rattle.ath_trees.proofs.ValidSorts.{both_true, valid-con, valid_under, valid_all_under, all_at_sorts_under, symbol_good}
 use Rattle.ath_trees.proofs.UnderLaws.{sort_in-is, has_sort-under, have_sorts-under}
-use Rattle.ath_trees.proofs.Sorting.{at_sorts-sorted}
+use Rattle.ath_trees.proofs.Sorting.{at_sorts-sorted, closed-sorted}
 use Rattle.ath_construction.proofs.UnifierValid.{unifier_valid}
-use Rattle.ath_construction.proofs.ConstructionLaws.{has_sort-valid, zip-valid, term_vars-valid, terms_vars-valid, sent_vars-valid, sents_vars-valid, append-valid, variable_pairs-valid}
+use Rattle.ath_construction.proofs.ConstructionLaws.{AreVars, has_sort-valid, zip-valid, term_vars-valid, terms_vars-valid, sent_vars-valid, sents_vars-valid, append-valid, variable_pairs-valid}
 use Rattle.ath_construction.proofs.ArgumentLaws.{made-length}
 use Rattle.ath_construction.proofs.ApplicationLaws.{made-valid, declared-valid, zip-pairs-valid, zip-unified, lengths}
 use Rattle.ath_construction.proofs.Planned.{app_counted}
@@ -182,3 +186,16 @@ module _ (sig : Signature) (valid : IsValid sig) (there : arity_of sig (record {
       let l = constructed-least (quantifier_plan k v p) (sent_measure sig) x e in
       let ok = unifier_valid sig l.0 (quantifier_plan k v p).pairs l.1.0 (variable_pairs-valid sig (with_sent (v ∷ []) p) (sent_vars-valid sig (v ∷ []) p (s, tt) h)) in
       subst (IsWellSorted sig) (sym l.1.1) (valid_under sig (image l.0) ok v.sort s, at_sorts-sorted sig valid (image l.0) ok p h)
+
+-- ---- closures
+module _ (sig : Signature) where
+  turned-sorted : (vs : List Var) (p x : Sent) → AreVars sig vs → IsWellSorted sig p → closed_in_turn vs p ≡ builds x → IsWellSorted sig x
+  turned-sorted [] p x h w e = let k : p ≡ x = cc in subst (IsWellSorted sig) k w
+  turned-sorted (v ∷ vs) p x h w e = go (closed_in_turn vs p) (λ q f. turned-sorted vs p q h.1 w f) e
+    where
+      go : (b : Built Sent) → ((q : Sent) → b ≡ builds q → IsWellSorted sig q) → closed_one v b ≡ builds x → IsWellSorted sig x
+      go (refuses why) f m = absurd (cc)
+      go (builds q) f m = subst (IsWellSorted sig) (sym (within-is (closed_over Forall v q) x (record { small = true; nodes = sent_size (closed_over Forall v q); levels = sent_depth (closed_over Forall v q) }) m)) (closed-sorted sig Forall v q h.0 (f q refl))
+
+  pub closure-sorted : (p x : Sent) → IsWellSorted sig p → universal_closure p ≡ builds x → IsWellSorted sig x
+  closure-sorted p x w e = turned-sorted (free_vars p) p x (sent_vars-valid sig [] p tt w) w e

@@ -17,4 +17,5 @@ mod symbols;
 pub mod world;
 
 pub use machine::run;
+pub use refusals::build_fault;
 pub use world::{Outcome, World};

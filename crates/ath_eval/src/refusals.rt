@@ -102,7 +102,7 @@ pub(crate) fn bad_sort(alloc: Global, error: SigError, at: Pos) -> Result<Outcom
 }
 
 /// Why something isn't built.
-fn build_fault(alloc: Global, error: BuildError) -> Result<Fault, AllocError>
+pub fn build_fault(alloc: Global, error: BuildError) -> Result<Fault, AllocError>
     ensures fault { IfOk result (λ f. (s : Trees) (why : Unbuilt) → IsWhy s error why → IsFault s f (told why)) }
     ensures memory { IfOk result (λ _. error ≡ build_error.Memory → ⊥) }
 {

@@ -1,149 +1,41 @@
 -- The tables of names that a reading comes to: they grow, no text stands twice, and none has an LF, since no name of a token has.
-use Rattle.std.proofs.Common.{◌≡◌, ℕ, zero, suc, ◌+◌, ◌-◌, ◌<◌, ◌≤◌, Bool, true, false, true≢false, cond, ◌&&◌, ◌||◌, ◌==◌, List, [], ◌∷◌, ◌++◌, length, take, drop, Option, Some, None, refl, sym, ap, ◌∙◌, subst, arith, ◌⊎◌, ⊎_elim, inl, inr, if◌then◌else◌, codes}
-use Rattle.std.proofs.lemmas.Bool.{cases_lt, and_parts}
+use Rattle.std.proofs.Common.{◌≡◌, ℕ, zero, suc, ◌+◌, ◌-◌, ◌<◌, Bool, true, false, true≢false, cond, ◌||◌, ◌==◌, List, [], ◌∷◌, ◌++◌, length, take, drop, Some, None, refl, sym, ap, ◌∙◌, subst, arith, ◌⊎◌, inl, inr, if◌then◌else◌, codes}
 use Rattle.std.proofs.lemmas.Grind.{common_steps}
-use Rattle.std.proofs.lemmas.List.{at_drop_all}
-use Rattle.std.proofs.lemmas.Option.{same_Some}
-use Rattle.std.proofs.lemmas.Str.{IsUtf8-nil, is_utf8-from_IsUtf8}
 use Rattle.std.specs.Prelude.{is_some, fold, nat_lt}
 use Rattle.std.proofs.lemmas.Bool.Decides.{nat_tests}
-use Rattle.std.specs.List.{list_all, list_any, prefix_len, position_or_len, IsDistinct}
-use Rattle.std.specs.Str.{is_utf8, bytes_eq}
+use Rattle.std.specs.List.{list_any, position_or_len, IsDistinct}
+use Rattle.std.specs.Str.{bytes_eq}
 use Rattle.std.specs.Fmt.{digits}
-use Rattle.std.specs.Str.Lossy.{utf8_valid_len}
 use Rattle.ath_grammar.specs.Tokens.{Placed, at}
 use Rattle.std.proofs.lemmas.Map.Keys.{IsDistinct-push}
 use Rattle.std.specs.Cmp.Lexicographic.{nat_list_eq_equiv}
 use Rattle.ath_names.specs.Names.{number_of, interned, numbered, fixed_words, first_names, Grows}
 use Rattle.ath_names.proofs.NamesLaws.{Grows-trans, Grows-interned}
-use Rattle.ath_tokens.specs.declared.tokens.LexKind.TheVariants.{BadUtf8}
-use Rattle.ath_tokens.specs.Bytes.{is_word_char, begins_part, is_at_part, is_punct}
-use Rattle.ath_tokens.specs.Cut.{gap_len, Cut, found, ended, fault, cut_at, next_of, place_of, names_with}
-use Rattle.ath_tokens.specs.Quoted.{Quoted, plain as outside, closed, wrong, unclosed, quoted}
-use Rattle.ath_tokens.specs.Spelling.{Lexeme, word, var, sort_var, str, punct, becomes, is_part, is_index, number, goes_on_word, indexed, spells_var, str_of, spells_str, spells_punct, spells}
-use Rattle.ath_tokens.proofs.CutLaws.{found_is_longest}
+use Rattle.ath_tokens.specs.Bytes.{is_word_char}
+use Rattle.ath_tokens.specs.Cut.{Cut, found, ended, fault, next_of, place_of, names_with}
+use Rattle.ath_tokens.specs.Spelling.{Lexeme, word, var, sort_var, str, punct, becomes, spells}
+use Rattle.ath_tokens.proofs.CutLaws.{found_is_longest, found_within}
+use Rattle.ath_tokens.proofs.SpelledNames.{Named, spelled}
 use Rattle.ath_reader.specs.Ahead.{seen_as, Ahead, a_token, the_end, a_fault, ahead, Reads, reads_none, reads_more, names_past}
 use Rattle.ath_session.specs.Believed.{has_line_end}
 use Rattle.ath_session.proofs.PlainLines.{Plain, plain, plain-cons, plain-append, decimal-plain, ArePlain}
 
--- the name of a token has no LF
-abbrev IsPlainNamed : Lexeme → Type 0
-IsPlainNamed (word text) = Plain text
-IsPlainNamed (var text index) = Plain text
-IsPlainNamed (sort_var text) = Plain text
-IsPlainNamed (str bytes) = Unit {0}
-IsPlainNamed (punct b) = Unit {0}
-IsPlainNamed becomes = Unit {0}
-
-tested : (t : Bool) (x y : Option Lexeme) (l : Lexeme) → cond t x y ≡ Some l → ((t ≡ true) × (x ≡ Some l)) ⊎ ((t ≡ false) × (y ≡ Some l))
-tested true x y l e = inl (refl, e)
-tested false x y l e = inr (refl, e)
-
-nothing : {P : Type 0} (l : Lexeme) → None ≡ Some l → P
-nothing l e = absurd cc
-
 same_number : (m n : ℕ) → (m == n) ≡ true → m ≡ n
 same_number m n e = grind (arith, common_steps)
 
-word_byte : (b : ℕ) (t : Bool) → (is_word_char b || (b == 46 && t)) ≡ true → (b == 10) ≡ false
-word_byte b t e = by (b == 10) refl
+name_byte : (b : ℕ) → (is_word_char b || b == 46) ≡ true → (b == 10) ≡ false
+name_byte b e = by (b == 10) refl
   where
     by : (d : Bool) → (b == 10) ≡ d → d ≡ false
     by false f = refl
-    by true f = let n : (is_word_char 10 || (10 == 46 && t)) ≡ true = subst (λ (c : ℕ). (is_word_char c || (c == 46 && t)) ≡ true) (same_number b 10 f) e in absurd (true≢false (sym n))
+    by true f = let n : (is_word_char 10 || 10 == 46) ≡ true = subst (λ (c : ℕ). (is_word_char c || c == 46) ≡ true) (same_number b 10 f) e in absurd (true≢false (sym n))
 
-part_byte : (b : ℕ) → is_word_char b ≡ true → (b == 10) ≡ false
-part_byte b e = word_byte b false (ap (λ t. t || (b == 46 && false)) e)
+-- the name of a token has no LF
+plain_named : (l : Lexeme) (bs : List ℕ) → spells bs ≡ Some l → Named Plain l
+plain_named = spelled Plain (plain [] refl) (λ b bs e h. plain-cons b (name_byte b e) h)
 
-word_plain : (bs : List ℕ) → goes_on_word bs ≡ true → Plain bs
-word_plain [] e = plain [] refl
-word_plain (b ∷ bs) e = let p = and_parts (is_word_char b || (b == 46 && is_at_part bs)) (goes_on_word bs) e in plain-cons b (word_byte b (is_at_part bs) p.0) (word_plain bs p.1)
-
-part_plain : (bs : List ℕ) → list_all is_word_char bs ≡ true → Plain bs
-part_plain [] e = plain [] refl
-part_plain (b ∷ bs) e = let p = and_parts (is_word_char b) (list_all is_word_char bs) e in plain-cons b (part_byte b p.0) (part_plain bs p.1)
-
-front_plain : (bs : List ℕ) → Plain (take (prefix_len is_word_char bs) bs)
-front_plain [] = plain [] refl
-front_plain (b ∷ bs) = by (is_word_char b) refl (front_plain bs)
-  where
-    n : ℕ
-    n = prefix_len is_word_char bs
-
-    by : (t : Bool) → is_word_char b ≡ t → Plain (take n bs) → Plain (take (cond t (1 + n) 0) (b ∷ bs))
-    by true e rest = let one : 1 + n ≡ suc n = omega arith in subst (λ k. Plain (take k (b ∷ bs))) (sym one) (plain-cons b (part_byte b e) rest)
-    by false e rest = plain [] refl
-
-module _ (l : Lexeme) where
-  named : (m : Lexeme) → IsPlainNamed m → Some m ≡ Some l → IsPlainNamed l
-  named m h e = subst IsPlainNamed (same_Some m l e) h
-
-  index_named : (name ds : List ℕ) → Plain name → indexed name ds ≡ Some l → IsPlainNamed l
-  index_named name [] h e = named (var name 0) h e
-  index_named name (c ∷ ds) h e = ⊎_elim (λ yes. named (var name (number ds)) h yes.1) (λ no. nothing l no.1) (tested (c == 37 && is_index ds) (Some (var name (number ds))) None l e)
-
-  var_named : (bs : List ℕ) → spells_var bs ≡ Some l → IsPlainNamed l
-  var_named bs e = ⊎_elim
-      (λ yes. index_named (take n bs) (drop n bs) (front_plain bs) yes.1)
-      (λ no. nothing l no.1)
-      (tested (is_at_part bs) (indexed (take n bs) (drop n bs)) None l e)
-    where
-      n : ℕ
-      n = prefix_len is_word_char bs
-
-  str_named : (bs : List ℕ) (q : Quoted) → str_of bs q ≡ Some l → IsPlainNamed l
-  str_named bs (closed n means) e = ⊎_elim (λ yes. named (str means) tt yes.1) (λ no. nothing l no.1) (tested (length bs == n + 1 && is_utf8 (take n bs)) (Some (str means)) None l e)
-  str_named bs (wrong back n) e = nothing l e
-  str_named bs unclosed e = nothing l e
-
-  punct_named : (b : ℕ) (bs : List ℕ) → spells_punct b bs ≡ Some l → IsPlainNamed l
-  punct_named b [] e = named (punct b) tt e
-  punct_named b (c ∷ []) e = ⊎_elim (λ yes. named becomes tt yes.1) (λ no. nothing l no.1) (tested (b == 58 && c == 61) (Some becomes) None l e)
-  punct_named b (c ∷ d ∷ bs) e = nothing l e
-
-  word_named : (b : ℕ) (bs : List ℕ) → begins_part b ≡ true → cond (goes_on_word bs) (Some (word (b ∷ bs))) None ≡ Some l → IsPlainNamed l
-  word_named b bs part e = ⊎_elim
-      (λ yes. named (word (b ∷ bs)) (plain-cons b (part_byte b (and_parts (is_word_char b) _ part).0) (word_plain bs yes.0)) yes.1)
-      (λ no. nothing l no.1)
-      (tested (goes_on_word bs) (Some (word (b ∷ bs))) None l e)
-
-  sort_named : (bs : List ℕ) → cond (is_part bs) (Some (sort_var bs)) None ≡ Some l → IsPlainNamed l
-  sort_named bs e = ⊎_elim
-      (λ yes. named (sort_var bs) (part_plain bs (and_parts (is_at_part bs) (list_all is_word_char bs) yes.0).1) yes.1)
-      (λ no. nothing l no.1)
-      (tested (is_part bs) (Some (sort_var bs)) None l e)
-
-  spelled : (bs : List ℕ) → spells bs ≡ Some l → IsPlainNamed l
-  spelled [] e = nothing l e
-  spelled (b ∷ bs) e = ⊎_elim (λ yes. word_named b bs yes.0 yes.1) (λ no. second no.1) (tested (begins_part b) _ _ l e)
-    where
-      fifth : cond (is_punct b) (spells_punct b bs) None ≡ Some l → IsPlainNamed l
-      fifth f = ⊎_elim (λ yes. punct_named b bs yes.1) (λ no. nothing l no.1) (tested (is_punct b) _ _ l f)
-
-      fourth : cond (b == 34) (spells_str bs) (cond (is_punct b) (spells_punct b bs) None) ≡ Some l → IsPlainNamed l
-      fourth f = ⊎_elim (λ yes. str_named bs (quoted outside bs) yes.1) (λ no. fifth no.1) (tested (b == 34) _ _ l f)
-
-      third : cond (b == 39) (cond (is_part bs) (Some (sort_var bs)) None) (cond (b == 34) (spells_str bs) (cond (is_punct b) (spells_punct b bs) None)) ≡ Some l → IsPlainNamed l
-      third f = ⊎_elim (λ yes. sort_named bs yes.1) (λ no. fourth no.1) (tested (b == 39) _ _ l f)
-
-      second : cond (b == 63) (spells_var bs) (cond (b == 39) (cond (is_part bs) (Some (sort_var bs)) None) (cond (b == 34) (spells_str bs) (cond (is_punct b) (spells_punct b bs) None))) ≡ Some l → IsPlainNamed l
-      second f = ⊎_elim (λ yes. var_named bs yes.1) (λ no. third no.1) (tested (b == 63) _ _ l f)
-
--- ---- what comes next in a text
-found_within : (text : List ℕ) (from : ℕ) (l : Lexeme) (s e : ℕ) → next_of text from ≡ found l s e → from ≤ length text
-found_within text from l s e f = ⊎_elim (λ past. absurd (clash (sym (at_end past) ∙ f))) (λ within. within) (cases_lt (length text) from)
-  where
-    cut : List ℕ → Cut
-    cut rest = let gap = gap_len false rest in cond (is_utf8 (take gap rest)) (cut_at (from + gap) (drop gap rest)) (fault BadUtf8 (from + utf8_valid_len (take gap rest)))
-
-    at_end : length text < from → next_of text from ≡ ended
-    at_end past = at_drop_all cut text from (omega arith) ∙ ap (λ t. cond t ended (fault BadUtf8 (from + utf8_valid_len []))) (is_utf8-from_IsUtf8 [] IsUtf8-nil)
-
-    clash : ended ≡ found l s e → ⊥
-    clash h = cc
-
-found_named : (text : List ℕ) (from : ℕ) (l : Lexeme) (s e : ℕ) → next_of text from ≡ found l s e → IsPlainNamed l
-found_named text from l s e f = spelled l (take (e - s) (drop s text)) (found_is_longest text from l s e (found_within text from l s e f) f).spelled
+found_named : (text : List ℕ) (from : ℕ) (l : Lexeme) (s e : ℕ) → next_of text from ≡ found l s e → Named Plain l
+found_named text from l s e f = plain_named l (take (e - s) (drop s text)) (found_is_longest text from l s e (found_within text from l s e f) f).spelled
 
 -- ---- names
 names_append : (names more : List (List ℕ)) → ArePlain names → ArePlain more → ArePlain (names ++ more)
@@ -200,7 +92,7 @@ interned_comes from names text c e = record {
   plain = interned_plain names text c.plain e;
 }
 
-with_comes : (from names : List (List ℕ)) (l : Lexeme) → Comes from names → IsPlainNamed l → Comes from (names_with names l)
+with_comes : (from names : List (List ℕ)) (l : Lexeme) → Comes from names → Named Plain l → Comes from (names_with names l)
 with_comes from names (word text) c k = interned_comes from names text c k
 with_comes from names (var text index) c k = interned_comes from names text c k
 with_comes from names (sort_var text) c k = interned_comes from names text c k

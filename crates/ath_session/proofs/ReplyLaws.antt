@@ -41,8 +41,8 @@ use Rattle.ath_session.proofs.StatementLaws.{domain_here, declare_here, assert_h
 
 -- ---- a phrase that was evaluated
 module _ (w v : World) (moved : Evaluates w v) (i : PhraseId) (o : code.Outcome) (says : (x : Phrase) → IsPhrase w.phrases i x → IsOutcome v.store v.fuel v.fresh o (outcome_of (context (state_of w)) (environment (state_of w)) x (left (state_of w)))) where
-  abbrev Asserts : World → Reply → Type 0
-  Asserts u r = (x : Phrase) → IsPhrase w.phrases i x → IsReply u r (asserting (state_of w) (place x) (outcome_of (context (state_of w)) (environment (state_of w)) x (left (state_of w))))
+  abbrev Asserts : Bool → World → Reply → Type 0
+  Asserts closed u r = (x : Phrase) → IsPhrase w.phrases i x → IsReply u r (asserting (state_of w) closed (place x) (outcome_of (context (state_of w)) (environment (state_of w)) x (left (state_of w))))
 
   abbrev Shows : World → Reply → Type 0
   Shows u r = (x : Phrase) → IsPhrase w.phrases i x → IsReply u r (showing (state_of w) (outcome_of (context (state_of w)) (environment (state_of w)) x (left (state_of w))))
@@ -51,21 +51,21 @@ module _ (w v : World) (moved : Evaluates w v) (i : PhraseId) (o : code.Outcome)
   outcome_is k e x h = subst (λ (y : code.Outcome). IsOutcome v.store v.fuel v.fresh y (outcome_of (context (state_of w)) (environment (state_of w)) x (left (state_of w)))) e (says x h)
 
   module _ {E : Type 0} where
-    pub value_assertion : (u : World) (a : Result Reply E) (n : Node) (x : coded.Value) → slice_get w.phrases.phrases i.0 ≡ Some n → o ≡ out.Value x → IfOk a (λ r. IsReply u r (asserting_sentence (state_of v) n.pos (sentence_of (value_at v.store x)))) → IfOk a (Asserts u)
-    value_assertion u (Ok r) n x at e h = λ y k. reply_as u r _ _ (value_asserted w v moved x n.pos (place y) _ (outcome_is (out.Value x) e y k) (place_here w.phrases i n y at k)) h
-    value_assertion u (Err m) n x at e h = tt
+    pub value_assertion : (u : World) (a : Result Reply E) (closed : Bool) (n : Node) (x : coded.Value) → slice_get w.phrases.phrases i.0 ≡ Some n → o ≡ out.Value x → IfOk a (λ r. IsReply u r (asserting_sentence (state_of v) closed n.pos (sentence_of (value_at v.store x)))) → IfOk a (Asserts closed u)
+    value_assertion u (Ok r) closed n x at e h = λ y k. reply_as u r _ _ (value_asserted w v moved closed x n.pos (place y) _ (outcome_is (out.Value x) e y k) (place_here w.phrases i n y at k)) h
+    value_assertion u (Err m) closed n x at e h = tt
 
-    pub theorem_assertion : (u : World) (a : Result Reply E) (n : Node) (p : SentId) → slice_get w.phrases.phrases i.0 ≡ Some n → o ≡ out.Theorem p → IfOk a (λ r. IsReply u r (asserting_sentence (state_of v) n.pos (sentence_of (value_at v.store (coded.TheVariants.Sent p))))) → IfOk a (Asserts u)
-    theorem_assertion u (Ok r) n p at e h = λ y k. reply_as u r _ _ (theorem_asserted w v moved p n.pos (place y) _ (outcome_is (out.Theorem p) e y k) (place_here w.phrases i n y at k)) h
-    theorem_assertion u (Err m) n p at e h = tt
+    pub theorem_assertion : (u : World) (a : Result Reply E) (closed : Bool) (n : Node) (p : SentId) → slice_get w.phrases.phrases i.0 ≡ Some n → o ≡ out.Theorem p → IfOk a (λ r. IsReply u r (asserting_sentence (state_of v) closed n.pos (sentence_of (value_at v.store (coded.TheVariants.Sent p))))) → IfOk a (Asserts closed u)
+    theorem_assertion u (Ok r) closed n p at e h = λ y k. reply_as u r _ _ (theorem_asserted w v moved closed p n.pos (place y) _ (outcome_is (out.Theorem p) e y k) (place_here w.phrases i n y at k)) h
+    theorem_assertion u (Err m) closed n p at e h = tt
 
-    pub error_assertion : (a : Result Reply E) (at : Pos) (f : Fault) → o ≡ out.Error f at → IfOk a (λ r. IsReply v r (refusing (state_of v) at (refusal_of v.store f))) → IfOk a (Asserts v)
-    error_assertion (Ok r) at f e h = λ y k. reply_as v r _ _ (error_asserted w v moved at (place y) f _ (outcome_is (out.Error f at) e y k)) h
-    error_assertion (Err m) at f e h = tt
+    pub error_assertion : (a : Result Reply E) (closed : Bool) (at : Pos) (f : Fault) → o ≡ out.Error f at → IfOk a (λ r. IsReply v r (refusing (state_of v) at (refusal_of v.store f))) → IfOk a (Asserts closed v)
+    error_assertion (Ok r) closed at f e h = λ y k. reply_as v r _ _ (error_asserted w v moved closed at (place y) f _ (outcome_is (out.Error f at) e y k)) h
+    error_assertion (Err m) closed at f e h = tt
 
-    pub spent_assertion : (a : Result Reply E) (at : Pos) → o ≡ out.Exhausted at → IfOk a (λ r. (r.events.items ≡ telling.Fuel at ∷ []) × (r.next ≡ next.Stop)) → IfOk a (Asserts v)
-    spent_assertion (Ok r) at e h = λ y k. spent_asserted w v moved r at (place y) _ (outcome_is (out.Exhausted at) e y k) h.0 h.1
-    spent_assertion (Err m) at e h = tt
+    pub spent_assertion : (a : Result Reply E) (closed : Bool) (at : Pos) → o ≡ out.Exhausted at → IfOk a (λ r. (r.events.items ≡ telling.Fuel at ∷ []) × (r.next ≡ next.Stop)) → IfOk a (Asserts closed v)
+    spent_assertion (Ok r) closed at e h = λ y k. spent_asserted w v moved closed r at (place y) _ (outcome_is (out.Exhausted at) e y k) h.0 h.1
+    spent_assertion (Err m) closed at e h = tt
 
     pub value_showing : (a : Result Reply E) (x : coded.Value) → o ≡ out.Value x → IfOk a (λ r. (r.events.items ≡ telling.Shown x ∷ []) × (r.next ≡ next.Go)) → IfOk a (Shows v)
     value_showing (Ok r) x e h = λ y k. value_shown w v moved r x _ (outcome_is (out.Value x) e y k) h.0 h.1
@@ -99,7 +99,7 @@ module _ (w u : World) (what : What) (at : Pos) where
     declare_tells (Ok r) ms ns ps ts os s e m t h = λ x k. done_as r x (declare_is ns ps os s) (declare_here w.phrases what x k ns ps os s e) (reply_as u r _ _ (λ i. declaring (state_of w) at (events.symbols_added (m i)) (after.declared w.sig (m i) ps (t i) s)) h)
     declare_tells (Err k) ms ns ps ts os s e m t h = tt
 
-    pub assert_tells : (a : Result Reply E) (n : Option Sym) (closed : Bool) (i : PhraseId) → what ≡ Assert n closed i → IfOk a (λ r. (x : Phrase) → IsPhrase w.phrases i x → IsReply u r (asserting (state_of w) (place x) (outcome_of (context (state_of w)) (environment (state_of w)) x (left (state_of w))))) → IfOk a Tells
+    pub assert_tells : (a : Result Reply E) (n : Option Sym) (closed : Bool) (i : PhraseId) → what ≡ Assert n closed i → IfOk a (λ r. (x : Phrase) → IsPhrase w.phrases i x → IsReply u r (asserting (state_of w) closed (place x) (outcome_of (context (state_of w)) (environment (state_of w)) x (left (state_of w))))) → IfOk a Tells
     assert_tells (Ok r) n closed i e h = λ x k. let p = assert_here w.phrases what x k n closed i e in done_as r x (assert_is n closed p.0) p.2 (h p.0 p.1)
     assert_tells (Err k) n closed i e h = tt
 

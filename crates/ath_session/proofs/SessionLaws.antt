@@ -1,11 +1,16 @@
 -- What a directive's reply stands for.
-use Rattle.std.proofs.Common.{◌≡◌, ℕ, ◌≤◌, List, [], ◌∷◌, ◌++◌, length, map, take, drop, Option, Some, None, refl, sym, ◌∙◌, ap, subst, arith}
+use Rattle.std.proofs.Common.{◌≡◌, ℕ, ◌≤◌, Bool, List, [], ◌∷◌, ◌++◌, length, map, take, drop, Option, Some, None, Result, Ok, Err, refl, sym, ◌∙◌, ap, subst, arith}
 use Rattle.std.proofs.lemmas.List.{length-take, take-append-le, take-append-drop}
 use Rattle.std.proofs.lemmas.List.Elements.{All-nil, All-cons, All-same}
 use Rattle.ath_names.specs.Names.{Grows}
 use Rattle.ath_syntax.specs.declared.place.Pos.{Pos}
 use Rattle.ath_terms.specs.Trees as trees
+use Rattle.ath_terms.specs.declared.measure.BuildError.{BuildError}
+use Rattle.ath_terms.specs.declared.measure.BuildError.TheVariants.{Memory}
 use Rattle.ath_trees.specs.declared.node.SentId.{SentId}
+use Rattle.ath_trees.specs.Tree.{Sent}
+use Rattle.ath_construction.specs.Construction.{Unbuilt, Built, builds, refuses}
+use Rattle.ath_construction.specs.Answers.{IsSentBuilt}
 use Rattle.ath_env.specs.Values.{sentence_of}
 use Rattle.ath_env.specs.Stands.{value_at, IsSentenceOf}
 use Rattle.ath_env.proofs.ValueLaws.{sentence-some, sentence-none}
@@ -16,7 +21,7 @@ use Rattle.ath_print.specs.declared.fault.FaultKind.TheVariants.{NotSentence}
 use Rattle.ath_print.specs.declared.event.Event as told
 use Rattle.ath_print.specs.declared.event.Event.TheVariants as telling
 use Rattle.ath_print.specs.Events.{Event}
-use Rattle.ath_print.specs.Stands.{argument_of, refusal_of, event_of, IsEventIn}
+use Rattle.ath_print.specs.Stands.{argument_of, refusal_of, IsFaultIn, IsFault, event_of, IsEventIn}
 use Rattle.ath_eval.specs.declared.world.World.{World}
 use Rattle.ath_eval.specs.declared.world.Outcome.TheVariants as out
 use Rattle.ath_base.specs.declared.entry.Origin.TheVariants.{Asserted, Concluded}
@@ -25,12 +30,15 @@ use Rattle.ath_base.specs.declared.entry.Origin.{Origin}
 use Rattle.ath_base.specs.Base.{Entry}
 use Rattle.ath_base.proofs.Newest.{entries_last, entries_grow}
 use Rattle.ath_base.specs.Stands.{entries_of}
+use Rattle.ath_eval.specs.Building as building
+use Rattle.ath_eval.specs.Stands.{IsWhy}
 use Rattle.ath_eval.specs.World.{Evaluates, IsOutcome}
 use Rattle.ath_eval.specs.Outcomes.{left_of, Outcome, gives, concludes, fails, exhausts, refusal}
+use Rattle.ath_eval.proofs.Answering.{refused_why}
 use Rattle.ath_eval.proofs.Worlds.{base_same}
 use Rattle.ath_terms.specs.declared.fresh.Fresh.{Fresh}
 use Rattle.ath_session.specs.State.{State, with_left, joining}
-use Rattle.ath_session.specs.Directives.{loads, Effect, asserting_sentence, asserting, showing, refusing, ending, loading}
+use Rattle.ath_session.specs.Directives.{loads, Effect, to_assert, asserting_built, asserting_sentence, asserting, showing, refusing, ending, loading}
 use Rattle.ath_session.specs.declared.session.Next.TheVariants as next
 use Rattle.ath_session.specs.declared.session.Reply.{Reply}
 use Rattle.ath_session.specs.Session.{state_of, AreEvents, next_of, IsReply}
@@ -71,35 +79,35 @@ state_left w v left made e f g = state_moved w v e ∙ (λ i. with_left (state_o
 
 -- ---- what an evaluation gives, asserted
 module _ (w v : World) (moved : Evaluates w v) where
-  pub value_asserted : (x : coded.Value) (at place : Pos) (o : Outcome) → IsOutcome v.store v.fuel v.fresh (out.Value x) o → place ≡ at → asserting_sentence (state_of v) at (sentence_of (value_at v.store x)) ≡ asserting (state_of w) place o
-  value_asserted x at place (gives y after) h e =
+  pub value_asserted : (closed : Bool) (x : coded.Value) (at place : Pos) (o : Outcome) → IsOutcome v.store v.fuel v.fresh (out.Value x) o → place ≡ at → asserting_sentence (state_of v) closed at (sentence_of (value_at v.store x)) ≡ asserting (state_of w) closed place o
+  value_asserted closed x at place (gives y after) h e =
       let s = state_left w v after.fuel after.fresh moved h.1 h.2 in
       let p = sym e in
       let q = ap sentence_of h.0.1 in
-      λ i. asserting_sentence (s i) (p i) (q i)
-  value_asserted x at place (concludes y after) h e = absurd h
-  value_asserted x at place (fails inner why after) h e = absurd h
-  value_asserted x at place (exhausts inner made) h e = absurd h
+      λ i. asserting_sentence (s i) closed (p i) (q i)
+  value_asserted closed x at place (concludes y after) h e = absurd h
+  value_asserted closed x at place (fails inner why after) h e = absurd h
+  value_asserted closed x at place (exhausts inner made) h e = absurd h
 
-  pub theorem_asserted : (p : SentId) (at place : Pos) (o : Outcome) → IsOutcome v.store v.fuel v.fresh (out.Theorem p) o → place ≡ at → asserting_sentence (state_of v) at (sentence_of (value_at v.store (coded.TheVariants.Sent p))) ≡ asserting (state_of w) place o
-  theorem_asserted p at place (concludes y after) h e =
+  pub theorem_asserted : (closed : Bool) (p : SentId) (at place : Pos) (o : Outcome) → IsOutcome v.store v.fuel v.fresh (out.Theorem p) o → place ≡ at → asserting_sentence (state_of v) closed at (sentence_of (value_at v.store (coded.TheVariants.Sent p))) ≡ asserting (state_of w) closed place o
+  theorem_asserted closed p at place (concludes y after) h e =
       let s = state_left w v after.fuel after.fresh moved h.1 h.2 in
       let f = sym e in
       let q = h.0.1 in
-      λ i. asserting_sentence (s i) (f i) (Some (q i))
-  theorem_asserted p at place (gives y after) h e = absurd h
-  theorem_asserted p at place (fails inner why after) h e = absurd h
-  theorem_asserted p at place (exhausts inner made) h e = absurd h
+      λ i. asserting_sentence (s i) closed (f i) (Some (q i))
+  theorem_asserted closed p at place (gives y after) h e = absurd h
+  theorem_asserted closed p at place (fails inner why after) h e = absurd h
+  theorem_asserted closed p at place (exhausts inner made) h e = absurd h
 
-  pub error_asserted : (at place : Pos) (f : Fault) (o : Outcome) → IsOutcome v.store v.fuel v.fresh (out.Error f at) o → refusing (state_of v) at (refusal_of v.store f) ≡ asserting (state_of w) place o
-  error_asserted at place f (fails inner why after) h =
+  pub error_asserted : (closed : Bool) (at place : Pos) (f : Fault) (o : Outcome) → IsOutcome v.store v.fuel v.fresh (out.Error f at) o → refusing (state_of v) at (refusal_of v.store f) ≡ asserting (state_of w) closed place o
+  error_asserted closed at place f (fails inner why after) h =
       let s = state_left w v after.fuel after.fresh moved h.2 h.3 in
       let p = h.0 in
       let q = h.1.1 in
       λ i. refusing (s i) (p i) (q i)
-  error_asserted at place f (gives y after) h = absurd h
-  error_asserted at place f (concludes y after) h = absurd h
-  error_asserted at place f (exhausts inner made) h = absurd h
+  error_asserted closed at place f (gives y after) h = absurd h
+  error_asserted closed at place f (concludes y after) h = absurd h
+  error_asserted closed at place f (exhausts inner made) h = absurd h
 
   pub error_shown : (at : Pos) (f : Fault) (o : Outcome) → IsOutcome v.store v.fuel v.fresh (out.Error f at) o → refusing (state_of v) at (refusal_of v.store f) ≡ showing (state_of w) o
   error_shown at f (fails inner why after) h =
@@ -118,11 +126,11 @@ module _ (w v : World) (moved : Evaluates w v) where
     state = state_left w v 0 made moved f g;
   }
 
-  pub spent_asserted : (r : Reply) (at place : Pos) (o : Outcome) → IsOutcome v.store v.fuel v.fresh (out.Exhausted at) o → r.events.items ≡ telling.Fuel at ∷ [] → r.next ≡ next.Stop → IsReply v r (asserting (state_of w) place o)
-  spent_asserted r at place (exhausts inner made) h e n = spent_here r at inner made h.0 h.1 h.2 e n
-  spent_asserted r at place (gives y after) h e n = absurd h
-  spent_asserted r at place (concludes y after) h e n = absurd h
-  spent_asserted r at place (fails inner why after) h e n = absurd h
+  pub spent_asserted : (closed : Bool) (r : Reply) (at place : Pos) (o : Outcome) → IsOutcome v.store v.fuel v.fresh (out.Exhausted at) o → r.events.items ≡ telling.Fuel at ∷ [] → r.next ≡ next.Stop → IsReply v r (asserting (state_of w) closed place o)
+  spent_asserted closed r at place (exhausts inner made) h e n = spent_here r at inner made h.0 h.1 h.2 e n
+  spent_asserted closed r at place (gives y after) h e n = absurd h
+  spent_asserted closed r at place (concludes y after) h e n = absurd h
+  spent_asserted closed r at place (fails inner why after) h e n = absurd h
 
   pub spent_shown : (r : Reply) (at : Pos) (o : Outcome) → IsOutcome v.store v.fuel v.fresh (out.Exhausted at) o → r.events.items ≡ telling.Fuel at ∷ [] → r.next ≡ next.Stop → IsReply v r (showing (state_of w) o)
   spent_shown r at (exhausts inner made) h e n = spent_here r at inner made h.0 h.1 h.2 e n
@@ -161,31 +169,55 @@ plain_refusal s f k e g = λ i. record { kind = e i; args = map (argument_of s) 
 pub refused_plainly : (w : World) (r : Reply) (at : Pos) (f : Fault) (k : FaultKind) (e : Effect) → f.kind ≡ k → f.args ≡ [] → refusing (state_of w) at (refusal k []) ≡ e → IsReply w r (refusing (state_of w) at (refusal_of w.store f)) → IsReply w r e
 refused_plainly w r at f k e p q g h = reply_as w r _ e (ap (refusing (state_of w) at) (plain_refusal w.store f k p q) ∙ g) h
 
--- ---- a value that is asserted, in a store that has grown
-module _ (w : World) (t : trees.Trees) (grown : trees.Grows w.store t) (x : coded.Value) where
+-- ---- what is asserted, in a store that has grown
+module _ (w : World) (t : trees.Trees) (grown : trees.Grows w.store t) where
   abbrev grown_state : State
   grown_state = record { names = w.names; signature = w.sig; base = entries_of t w.base.entries.items; fuel = w.fuel; fresh = w.fresh }
 
   same_state : grown_state ≡ state_of w
   same_state = ap (λ (es : List Entry). record { names = w.names; signature = w.sig; base = es; fuel = w.fuel; fresh = w.fresh }) (entries_grow w.store t grown w.base.entries.items w.in_store)
 
-  pub no_sentence : (u : World) (r : Reply) (at : Pos) (found : Option SentId) (f : Fault) → IsSentenceOf t found (sentence_of (value_at w.store x)) → found ≡ None → f.kind ≡ NotSentence → f.args ≡ [] → IsReply u r (refusing grown_state at (refusal_of t f)) → IsReply u r (asserting_sentence (state_of w) at (sentence_of (value_at w.store x)))
-  no_sentence u r at found f h e k a p =
-      let n = sentence-none t found (sentence_of (value_at w.store x)) h e in
-      let q = plain_refusal t f NotSentence k a in
-      let s = same_state in
-      reply_as u r _ _ ((λ i. refusing (s i) at (q i)) ∙ ap (asserting_sentence (state_of w) at) (sym n)) p
+  -- ---- the sentence that a value is
+  module _ (x : coded.Value) (closed : Bool) (found : Option SentId) (h : IsSentenceOf t found (sentence_of (value_at w.store x))) where
+    pub no_sentence : (u : World) (r : Reply) (at : Pos) (f : Fault) → found ≡ None → f.kind ≡ NotSentence → f.args ≡ [] → IsReply u r (refusing grown_state at (refusal_of t f)) → IsReply u r (asserting_sentence (state_of w) closed at (sentence_of (value_at w.store x)))
+    no_sentence u r at f e k a p =
+        let n = sentence-none t found (sentence_of (value_at w.store x)) h e in
+        let q = plain_refusal t f NotSentence k a in
+        let s = same_state in
+        reply_as u r _ _ ((λ i. refusing (s i) at (q i)) ∙ ap (asserting_sentence (state_of w) closed at) (sym n)) p
 
-  pub sentence_joined : (v : World) (r : Reply) (at : Pos) (found : Option SentId) (p : SentId) → IsSentenceOf t found (sentence_of (value_at w.store x)) → found ≡ Some p → v.store ≡ t → state_of v ≡ joining grown_state Asserted (trees.sent_at t.sents p.0) → r.events.items ≡ telling.Assertion p ∷ [] → r.next ≡ next.Go → IsReply v r (asserting_sentence (state_of w) at (sentence_of (value_at w.store x)))
-  sentence_joined v r at found p h e m j a n =
-      let y = sentence-some t found (sentence_of (value_at w.store x)) p h e in
-      let s = same_state in
-      let q = y.2.1 in
-      reply_as v r (asserting_sentence (state_of w) at (Some y.0)) _ (ap (asserting_sentence (state_of w) at) (sym y.1)) (record {
-        events = subst (λ (t : trees.Trees). AreEvents t r.events.items (Event.asserted y.0 ∷ [])) (sym m) (one_event t r.events.items (telling.Assertion p) (Event.asserted y.0) a y.2.0 (ap Event.asserted q));
-        next = ap next_of n;
-        state = j ∙ (λ i. joining (s i) Asserted (q i));
-      })
+    pub sentence_asserted : (u : World) (r : Reply) (at : Pos) (p : SentId) → found ≡ Some p → IsReply u r (asserting_built grown_state at (to_assert closed (trees.sent_at t.sents p.0))) → IsReply u r (asserting_sentence (state_of w) closed at (sentence_of (value_at w.store x)))
+    sentence_asserted u r at p e k =
+        let y = sentence-some t found (sentence_of (value_at w.store x)) p h e in
+        let q = y.2.1 in
+        let s = same_state in
+        reply_as u r _ _ ((λ i. asserting_built (s i) at (to_assert closed (q i))) ∙ ap (asserting_sentence (state_of w) closed at) (sym y.1)) k
+
+  -- ---- what is built of it
+  module _ (b : Built Sent) (made : Result SentId BuildError) (h : IsSentBuilt t b made) where
+    pub built_joined : (v : World) (r : Reply) (at : Pos) (p : SentId) → made ≡ Ok p → v.store ≡ t → state_of v ≡ joining grown_state Asserted (trees.sent_at t.sents p.0) → r.events.items ≡ telling.Assertion p ∷ [] → r.next ≡ next.Go → IsReply v r (asserting_built (state_of w) at b)
+    built_joined v r at p e m j a n =
+        let y : IsSentBuilt t b (Ok p) = subst (IsSentBuilt t b) e h in
+        let q = y.2.1 in
+        let s = same_state in
+        reply_as v r (asserting_built (state_of w) at (builds y.0)) _ (ap (asserting_built (state_of w) at) (sym y.1)) (record {
+          events = subst (λ (t : trees.Trees). AreEvents t r.events.items (Event.asserted y.0 ∷ [])) (sym m) (one_event t r.events.items (telling.Assertion p) (Event.asserted y.0) a y.2.0 (ap Event.asserted q));
+          next = ap next_of n;
+          state = j ∙ (λ i. joining (s i) Asserted (q i));
+        })
+
+    module _ (error : BuildError) (f : Fault) (e : made ≡ Err error) (some : error ≡ Memory → ⊥) (told : (why : Unbuilt) → IsWhy t error why → IsFault t f (building.told why)) where
+      reason : (why : Unbuilt) × (b ≡ refuses why) × IsWhy t error why
+      reason = refused_why t b error some (subst (IsSentBuilt t b) e h)
+
+      pub fault_in : IsFaultIn t f
+      fault_in = (told reason.0 reason.2).0
+
+      pub built_refused : (u : World) (r : Reply) (at : Pos) → IsReply u r (refusing grown_state at (refusal_of t f)) → IsReply u r (asserting_built (state_of w) at b)
+      built_refused u r at k =
+          let q = (told reason.0 reason.2).1 in
+          let s = same_state in
+          reply_as u r _ _ ((λ i. refusing (s i) at (q i)) ∙ ap (asserting_built (state_of w) at) (sym reason.1)) k
 
 -- ---- a file that is loaded
 pub load_told : (w : World) (r : Reply) (name : List ℕ) → r.events.items ≡ [] → next_of r.next ≡ loads name → IsReply w r (loading (state_of w) name)

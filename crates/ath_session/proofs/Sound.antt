@@ -21,6 +21,8 @@ use Rattle.ath_calculus.specs.Derives.{Derives, axiom_of, IsAmong}
 use Rattle.ath_calculus.specs.Laws.{Extends}
 use Rattle.ath_calculus.specs.Theory.{Theory, theory_of}
 use Rattle.ath_calculus.proofs.Grown.{well_sorted}
+use Rattle.ath_construction.specs.Construction.{Built, builds, refuses}
+use Rattle.ath_construction.proofs.SortedLaws.{closure-sorted}
 use Rattle.ath_env.specs.Values.{Value, sentence_of}
 use Rattle.ath_print.specs.declared.fault.FaultKind.TheVariants.{FileTooLong, TooManyLoads}
 use Rattle.ath_print.specs.Events.{Refusal, Event, domain_added, symbols_added, asserted, proved, shown, refused, exhausted, is_refused, is_exhausted}
@@ -40,7 +42,7 @@ use Rattle.ath_grammar.proofs.TypedTable.{StatementDiffers, DirectiveDiffers}
 use Rattle.ath_session.proofs.Differ.{whole_differs}
 use Rattle.ath_session.specs.State.{State, first_state, context, environment, left, with_left, with_signature, with_names, joining}
 use Rattle.ath_session.specs.Unbuilt.{unbuilt_in}
-use Rattle.ath_session.specs.Directives.{Continuation, goes_on, loads, ends, Effect, telling, declaring, asserting, asserting_sentence, ending, showing, refusing, loading, done, unless_unbuilt, effect}
+use Rattle.ath_session.specs.Directives.{Continuation, goes_on, loads, ends, Effect, telling, declaring, to_assert, asserting, asserting_sentence, asserting_built, ending, showing, refusing, loading, done, unless_unbuilt, effect}
 use Rattle.ath_session.specs.Run.{Item, asks, tells, Configuration, Halt, Move, goes, halts, reading_of, opened, fetched, asking, beginning_of, next_file, tell_all, following, place_of, turned, IsTurn, Runs, at_start, one_more, said}
 use Rattle.ath_session.specs.declared.limits.TheConstants.{MOST_BYTES, MOST_ASKED, MOST_LOADS}
 use Rattle.ath_session.specs.Report.{Report, said_in, start, IsLogOf, IsReportOf}
@@ -87,15 +89,19 @@ declaring-kept : (st : State) (at : Pos) (x : Event) → is_refused x ≡ false 
 declaring-kept st at x e f (Ok sig) = told-kept st (with_signature st sig) x e f
 declaring-kept st at x e f (Err err) = refused-kept st at _
 
-sentence-kept : (st : State) (after : Left) (at : Pos) (o : Option Sent) → Kept st (asserting_sentence (with_left st after) at o)
-sentence-kept st after at (Some p) = told-kept st (joining (with_left st after) Asserted p) (asserted p) refl refl
-sentence-kept st after at None = refusing-kept st after at _
+built-kept : (st : State) (after : Left) (at : Pos) (b : Built Sent) → Kept st (asserting_built (with_left st after) at b)
+built-kept st after at (builds p) = told-kept st (joining (with_left st after) Asserted p) (asserted p) refl refl
+built-kept st after at (refuses why) = refusing-kept st after at _
 
-asserting-kept : (st : State) (at : Pos) (o : Outcome) → Kept st (asserting st at o)
-asserting-kept st at (gives v after) = sentence-kept st after at (sentence_of v)
-asserting-kept st at (concludes p after) = sentence-kept st after at (Some p)
-asserting-kept st at (fails inner why after) = refusing-kept st after inner why
-asserting-kept st at (exhausts inner made) = ending-kept st inner made
+sentence-kept : (st : State) (after : Left) (closed : Bool) (at : Pos) (o : Option Sent) → Kept st (asserting_sentence (with_left st after) closed at o)
+sentence-kept st after closed at (Some p) = built-kept st after at (to_assert closed p)
+sentence-kept st after closed at None = refusing-kept st after at _
+
+asserting-kept : (st : State) (closed : Bool) (at : Pos) (o : Outcome) → Kept st (asserting st closed at o)
+asserting-kept st closed at (gives v after) = sentence-kept st after closed at (sentence_of v)
+asserting-kept st closed at (concludes p after) = sentence-kept st after closed at (Some p)
+asserting-kept st closed at (fails inner why after) = refusing-kept st after inner why
+asserting-kept st closed at (exhausts inner made) = ending-kept st inner made
 
 showing-kept : (st : State) (o : Outcome) → Kept st (showing st o)
 showing-kept st (gives v after) = told-kept st (with_left st after) (shown v) refl refl
@@ -108,7 +114,7 @@ loading-kept st name = record { refusal = λ g. absurd (true≢false (sym g)); e
 
 done-kept : (st : State) (at : Pos) (s : Statement) → Kept st (done st at s)
 done-kept st at (declare_is ns params args result) = declaring-kept st at (symbols_added ns) refl refl (after.declared st.signature ns params args result)
-done-kept st at (assert_is n closed x) = asserting-kept st (place x) (outcome_of (context st) (environment st) x (left st))
+done-kept st at (assert_is n closed x) = asserting-kept st closed (place x) (outcome_of (context st) (environment st) x (left st))
 done-kept st at (load_is name) = loading-kept st name
 done-kept st at (phrase_is x) = showing-kept st (outcome_of (context st) (environment st) x (left st))
 done-kept st at (domain_is n vs) = declaring-kept st at (domain_added n) refl refl (after.domain_declared st.signature n vs)
@@ -140,15 +146,19 @@ declaring-moved : (st : State) (at : Pos) (x : Event) (o : Result Signature Flaw
 declaring-moved st at x (Ok sig) = not-moved st
 declaring-moved st at x (Err e) = not-moved st
 
-sentence-moved : (st new : State) → Moved st new → (at : Pos) (o : Option Sent) → Moved st (asserting_sentence new at o).state
-sentence-moved st new h at (Some p) = h
-sentence-moved st new h at None = h
+built-moved : (st new : State) → Moved st new → (at : Pos) (b : Built Sent) → Moved st (asserting_built new at b).state
+built-moved st new h at (builds p) = h
+built-moved st new h at (refuses why) = h
 
-asserting-moved : (st : State) (at : Pos) (o : Outcome) → Spends (left st) o → Moved st (asserting st at o).state
-asserting-moved st at (gives v after) h = sentence-moved st (with_left st after) h at (sentence_of v)
-asserting-moved st at (concludes p after) h = h
-asserting-moved st at (fails inner why after) h = h
-asserting-moved st at (exhausts inner made) h = (zero-le, h.0, h.1)
+sentence-moved : (st new : State) → Moved st new → (closed : Bool) (at : Pos) (o : Option Sent) → Moved st (asserting_sentence new closed at o).state
+sentence-moved st new h closed at (Some p) = built-moved st new h at (to_assert closed p)
+sentence-moved st new h closed at None = h
+
+asserting-moved : (st : State) (closed : Bool) (at : Pos) (o : Outcome) → Spends (left st) o → Moved st (asserting st closed at o).state
+asserting-moved st closed at (gives v after) h = sentence-moved st (with_left st after) h closed at (sentence_of v)
+asserting-moved st closed at (concludes p after) h = sentence-moved st (with_left st after) h closed at (Some p)
+asserting-moved st closed at (fails inner why after) h = h
+asserting-moved st closed at (exhausts inner made) h = (zero-le, h.0, h.1)
 
 showing-moved : (st : State) (o : Outcome) → Spends (left st) o → Moved st (showing st o).state
 showing-moved st (gives v after) h = h
@@ -159,7 +169,7 @@ showing-moved st (exhausts at made) h = (zero-le, h.0, h.1)
 module _ (never : NeverRises) where
   done-moved : (st : State) (at : Pos) (s : Statement) → Moved st (done st at s).state
   done-moved st at (declare_is ns params args result) = declaring-moved st at (symbols_added ns) (after.declared st.signature ns params args result)
-  done-moved st at (assert_is n closed x) = asserting-moved st (place x) (outcome_of (context st) (environment st) x (left st)) (never (context st) (environment st) most_nested x (left st))
+  done-moved st at (assert_is n closed x) = asserting-moved st closed (place x) (outcome_of (context st) (environment st) x (left st)) (never (context st) (environment st) most_nested x (left st))
   done-moved st at (load_is name) = not-moved st
   done-moved st at (phrase_is x) = showing-moved st (outcome_of (context st) (environment st) x (left st)) (never (context st) (environment st) most_nested x (left st))
   done-moved st at (domain_is n vs) = declaring-moved st at (domain_added n) (after.domain_declared st.signature n vs)
@@ -214,13 +224,22 @@ declare-does ps st sound at x just same (Ok sig) grown =
     (just sig, subst (λ (qs : List Sent). IsSoundFor qs (with_signature st sig)) (sym same) (record { valid = g.1; has_boolean = g.0.sorts (record { 0 = 0 }) 0 sound.has_boolean; base = base_grown (theory_of st.signature) (theory_of sig) ps ps [] (sentences st.base) g.0 (λ q i. i) sound.base }))
 declare-does ps st sound at x just same (Err e) grown = (tt, sound)
 
-sentence-does : (ps : List Sent) (st : State) → IsSoundFor ps st → (at : Pos) (o : Option Sent) → ((p : Sent) → o ≡ Some p → IsWellSorted st.signature p) → DoesAll ps (asserting_sentence st at o)
-sentence-does ps st sound at None sorted = (tt, sound)
-sentence-does ps st sound at (Some p) sorted =
+-- what is asserted of a well-sorted sentence is well-sorted
+assert-sorted : (sig : Signature) (closed : Bool) (p q : Sent) → IsWellSorted sig p → to_assert closed p ≡ builds q → IsWellSorted sig q
+assert-sorted sig false p q h e = let same : p ≡ q = cc in subst (IsWellSorted sig) same h
+assert-sorted sig true p q h e = closure-sorted sig p q h e
+
+built-does : (ps : List Sent) (st : State) → IsSoundFor ps st → (at : Pos) (b : Built Sent) → ((p : Sent) → b ≡ builds p → IsWellSorted st.signature p) → DoesAll ps (asserting_built st at b)
+built-does ps st sound at (refuses why) sorted = (tt, sound)
+built-does ps st sound at (builds p) sorted =
     let all = ps ++ p ∷ [] in
     let base = base_grown (theory_of st.signature) (theory_of st.signature) ps all [] (sentences st.base) (extends-refl (theory_of st.signature)) (λ q i. in-append q ps (p ∷ []) i) sound.base in
     let derives : Derives (theory_of st.signature) all [] p = axiom_of tt (sorted p refl) (is-last p ps) in
     (tt, record { valid = sound.valid; has_boolean = sound.has_boolean; base = base_joined (theory_of st.signature) all [] (sentences st.base) p base derives })
+
+sentence-does : (ps : List Sent) (st : State) → IsSoundFor ps st → (closed : Bool) (at : Pos) (o : Option Sent) → ((p : Sent) → o ≡ Some p → IsWellSorted st.signature p) → DoesAll ps (asserting_sentence st closed at o)
+sentence-does ps st sound closed at None sorted = (tt, sound)
+sentence-does ps st sound closed at (Some p) sorted = built-does ps st sound at (to_assert closed p) (λ q e. assert-sorted st.signature closed p q (sorted p refl) e)
 
 -- what is known of an outcome
 record Follows (sig : Signature) (ps : List Sent) (o : Outcome) : Type 0 where
@@ -230,12 +249,12 @@ record Follows (sig : Signature) (ps : List Sent) (o : Outcome) : Type 0 where
 left-sound : (ps : List Sent) (st : State) (after : Left) → IsSoundFor ps st → IsSoundFor ps (with_left st after)
 left-sound ps st after sound = record { valid = sound.valid; has_boolean = sound.has_boolean; base = sound.base }
 
-assert-does : (ps : List Sent) (st : State) → IsSoundFor ps st → (at : Pos) (o : Outcome) → Follows st.signature ps o → DoesAll ps (asserting st at o)
-assert-does ps st sound at (gives v after) f = sentence-does ps (with_left st after) (left-sound ps st after sound) at (sentence_of v) (λ p e. sentence-sorted st.signature v p (f.sorted v after refl) e)
-assert-does ps st sound at (concludes p after) f =
-    sentence-does ps (with_left st after) (left-sound ps st after sound) at (Some p) (λ q e. let same : p ≡ q = cc in subst (IsWellSorted st.signature) same (well_sorted (f.derives p after refl)))
-assert-does ps st sound at (fails inner why after) f = (tt, left-sound ps st after sound)
-assert-does ps st sound at (exhausts inner made) f = (tt, left-sound ps st (left_of 0 made) sound)
+assert-does : (ps : List Sent) (st : State) → IsSoundFor ps st → (closed : Bool) (at : Pos) (o : Outcome) → Follows st.signature ps o → DoesAll ps (asserting st closed at o)
+assert-does ps st sound closed at (gives v after) f = sentence-does ps (with_left st after) (left-sound ps st after sound) closed at (sentence_of v) (λ p e. sentence-sorted st.signature v p (f.sorted v after refl) e)
+assert-does ps st sound closed at (concludes p after) f =
+    sentence-does ps (with_left st after) (left-sound ps st after sound) closed at (Some p) (λ q e. let same : p ≡ q = cc in subst (IsWellSorted st.signature) same (well_sorted (f.derives p after refl)))
+assert-does ps st sound closed at (fails inner why after) f = (tt, left-sound ps st after sound)
+assert-does ps st sound closed at (exhausts inner made) f = (tt, left-sound ps st (left_of 0 made) sound)
 
 show-does : (ps : List Sent) (st : State) → IsSoundFor ps st → (o : Outcome) → Follows st.signature ps o → DoesAll ps (showing st o)
 show-does ps st sound (gives v after) f = (tt, left-sound ps st after sound)
@@ -261,7 +280,7 @@ module _ (follow : ConclusionsFollow) (values : ValuesAreSorted) where
 
   done-does : (ps : List Sent) (st : State) → IsSoundFor ps st → (at : Pos) (s : Statement) → StatementDiffers s → DoesAll ps (done st at s)
   done-does ps st sound at (declare_is ns params args result) differ = declare-does ps st sound at (symbols_added ns) (λ sig. tt) refl (after.declared st.signature ns params args result) (symbols-grown st.signature ns params args result sound.valid differ)
-  done-does ps st sound at (assert_is n closed x) differ = assert-does ps st sound (place x) (outcome_of (context st) (environment st) x (left st)) (outcome-follows ps st sound x)
+  done-does ps st sound at (assert_is n closed x) differ = assert-does ps st sound closed (place x) (outcome_of (context st) (environment st) x (left st)) (outcome-follows ps st sound x)
   done-does ps st sound at (load_is name) differ = sound
   done-does ps st sound at (phrase_is x) differ = show-does ps st sound (outcome_of (context st) (environment st) x (left st)) (outcome-follows ps st sound x)
   done-does ps st sound at (domain_is n vs) differ = declare-does ps st sound at (domain_added n) (λ sig. tt) refl (after.domain_declared st.signature n vs) (domain-grown st.signature n vs sound.valid)

@@ -1,5 +1,5 @@
 -- The theorems of a directive are derivable from the asserted sentences of the state before it, and the state after it is sound.
-use Rattle.std.proofs.Common.{◌≡◌, List, [], Option, Some, None, Result, Ok, Err, refl, sym, subst}
+use Rattle.std.proofs.Common.{◌≡◌, Bool, List, [], Option, Some, None, Result, Ok, Err, refl, sym, subst}
 use Rattle.std.specs.Prelude.{map}
 use Rattle.ath_sorts.specs.declared.signature.Flaw.{Flaw}
 use Rattle.ath_sorts.specs.Signature.{Signature, arity_of, initial}
@@ -16,6 +16,7 @@ use Rattle.ath_syntax.specs.Nodes as syntax
 use Rattle.ath_syntax.specs.Stands.{IsStatement, says_domain, says_datatype, says_declare, says_define, says_define_fun, says_assert, says_load, says_phrase, IsDirective, is_directive}
 use Rattle.ath_syntax.specs.Tree.{Statement, domain_is, datatype_is, declare_is, define_is, define_fun_is, assert_is, load_is, phrase_is, DirectiveTree, directive_at}
 use Rattle.ath_declarations.specs.Declarations as after
+use Rattle.ath_construction.specs.Construction.{Built, builds, refuses}
 use Rattle.ath_env.specs.Values.{sentence_of}
 use Rattle.ath_print.specs.Events.{Event, domain_added, symbols_added}
 use Rattle.ath_print.specs.Stands.{event_of}
@@ -27,7 +28,7 @@ use Rattle.ath_eval.specs.Evaluation.{outcome_of}
 use Rattle.ath_eval.proofs.Sound.{conclusions-follow, values-sorted}
 use Rattle.ath_session.specs.State.{State, context, environment, left, with_left, with_signature}
 use Rattle.ath_session.specs.Unbuilt.{unbuilt_in}
-use Rattle.ath_session.specs.Directives.{Effect, declaring, asserting, asserting_sentence, showing, done, unless_unbuilt, effect}
+use Rattle.ath_session.specs.Directives.{Effect, declaring, to_assert, asserting, asserting_sentence, asserting_built, showing, done, unless_unbuilt, effect}
 use Rattle.ath_session.specs.declared.session.Reply.{Reply}
 use Rattle.ath_session.specs.Session.{state_of, IsReply, ParamsDiffer}
 use Rattle.ath_session.specs.Sound.{asserted_in, IsSoundFor, IsSound, AreFollowing}
@@ -44,15 +45,19 @@ declared : (st : State) (at : Pos) (x : Event) → IsJustified st.signature (ass
 declared st at x just same (Ok sig) d = ((just, tt), subst (λ (qs : List Sent). IsSoundFor qs (with_signature st sig)) same d.1)
 declared st at x just same (Err e) d = ((d.0, tt), d.1)
 
-sentence : (st : State) (at : Pos) (o : Option Sent) → Steps st (asserting_sentence st at o)
-sentence st at (Some p) d = ((d.0, tt), d.1)
-sentence st at None d = ((d.0, tt), d.1)
+built : (st : State) (at : Pos) (b : Built Sent) → Steps st (asserting_built st at b)
+built st at (builds p) d = ((d.0, tt), d.1)
+built st at (refuses why) d = ((d.0, tt), d.1)
 
-assertion : (st : State) (at : Pos) (o : Outcome) → Steps st (asserting st at o)
-assertion st at (gives v after) d = sentence (with_left st after) at (sentence_of v) d
-assertion st at (concludes p after) d = ((d.0, tt), d.1)
-assertion st at (fails inner why after) d = ((d.0, tt), d.1)
-assertion st at (exhausts inner made) d = ((d.0, tt), d.1)
+sentence : (st : State) (closed : Bool) (at : Pos) (o : Option Sent) → Steps st (asserting_sentence st closed at o)
+sentence st closed at (Some p) d = built st at (to_assert closed p) d
+sentence st closed at None d = ((d.0, tt), d.1)
+
+assertion : (st : State) (closed : Bool) (at : Pos) (o : Outcome) → Steps st (asserting st closed at o)
+assertion st closed at (gives v after) d = sentence (with_left st after) closed at (sentence_of v) d
+assertion st closed at (concludes p after) d = sentence (with_left st after) closed at (Some p) d
+assertion st closed at (fails inner why after) d = ((d.0, tt), d.1)
+assertion st closed at (exhausts inner made) d = ((d.0, tt), d.1)
 
 phrase : (st : State) (o : Outcome) → Steps st (showing st o)
 phrase st (gives v after) d = ((d.0, tt), d.1)
@@ -62,7 +67,7 @@ phrase st (exhausts at made) d = ((d.0, tt), d.1)
 
 statement : (st : State) (at : Pos) (s : Statement) → Steps st (done st at s)
 statement st at (declare_is ns params args result) d = declared st at (symbols_added ns) tt refl (after.declared st.signature ns params args result) d
-statement st at (assert_is n closed x) d = assertion st (place x) (outcome_of (context st) (environment st) x (left st)) d
+statement st at (assert_is n closed x) d = assertion st closed (place x) (outcome_of (context st) (environment st) x (left st)) d
 statement st at (load_is name) d = (tt, d)
 statement st at (phrase_is x) d = phrase st (outcome_of (context st) (environment st) x (left st)) d
 statement st at (domain_is n vs) d = declared st at (domain_added n) tt refl (after.domain_declared st.signature n vs) d

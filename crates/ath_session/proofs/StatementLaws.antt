@@ -1,5 +1,5 @@
 -- What a directive says, by its kind.
-use Rattle.std.proofs.Common.{◌≡◌, List, [], Bool, true, false, ◌||◌, Option, Some, None, is_some, ℕ, refl, subst}
+use Rattle.std.proofs.Common.{◌≡◌, List, [], Bool, false, Option, Some, None, is_some, ℕ, refl, subst}
 use Rattle.ath_sorts.specs.declared.sorts.Sym.{Sym}
 use Rattle.ath_syntax.specs.declared.place.Pos.{Pos}
 use Rattle.ath_syntax.specs.declared.node.PhraseId.{PhraseId}
@@ -62,10 +62,9 @@ other_here s w x (says_assert {x = n} {closed = c} {i = i} h) nm nd na nl np = a
 other_here s w x (says_load {b = b}) nm nd na nl np = absurd (nl b refl)
 other_here s w x (says_phrase {i = i} h) nm nd na nl np = absurd (np i refl)
 
--- an assertion that is neither named nor closed is told as its phrase
-pub assert_bare : (names : List (List ℕ)) (at : Pos) (n : Option Sym) (closed : Bool) (t : Phrase) → (is_some n || closed) ≡ false → built.unbuilt names t ≡ built.unbuilt_in names at (assert_is n closed t)
-assert_bare names at None false t e = refl
-assert_bare names at None true t e = absurd (cc)
+-- an assertion without a name is told as its phrase
+pub assert_bare : (names : List (List ℕ)) (at : Pos) (n : Option Sym) (closed : Bool) (t : Phrase) → is_some n ≡ false → built.unbuilt names t ≡ built.unbuilt_in names at (assert_is n closed t)
+assert_bare names at None closed t e = refl
 assert_bare names at (Some n) closed t e = absurd (cc)
 
 -- the statement of a directive

@@ -1,6 +1,6 @@
 -- What is built, by the nodes of phrases.
-use Rattle.std.proofs.Common.{◌≡◌, ℕ, ◌<◌, ◌+◌, ◌&&◌, ◌||◌, not, Bool, true, false, List, [], ◌∷◌, length, get_or, take, drop, Option, Some, None, is_some, cond, refl, sym, ◌∙◌, ap, subst, add-one, drop-cons, arith}
-use Rattle.std.specs.Prelude.{slice_get, codes}
+use Rattle.std.proofs.Common.{◌≡◌, ℕ, ◌<◌, ◌+◌, ◌&&◌, not, Bool, true, false, List, [], ◌∷◌, length, get_or, take, drop, Option, Some, None, is_some, cond, refl, sym, ◌∙◌, ap, subst, add-one, drop-cons, arith}
+use Rattle.std.specs.Prelude.{slice_get}
 use Rattle.std.specs.List.{All}
 use Rattle.std.specs.Str.{bytes_eq}
 use Rattle.std.proofs.lemmas.List.{length-take, drop_all}
@@ -59,65 +59,45 @@ module _ (s : Nodes) where
       go : (x : Phrase) → IsForm s n.pos (Name y) x → bytes_eq (text_of names y) text ≡ built.is_name names text x
       go x is_name = refl
 
-  no_name_form : (names : List (List ℕ)) (text : List ℕ) (p : Pos) (f : Form) (x : Phrase) → ((y : Sym) → f ≡ Name y → ⊥) → IsForm s p f x → false ≡ built.is_name names text x
-  no_name_form names text p f x nn (is_name {x = y}) = absurd (nn y refl)
-  no_name_form names text p f x nn is_variable = refl
-  no_name_form names text p f x nn is_string = refl
-  no_name_form names text p f x nn (is_list h) = refl
-  no_name_form names text p f x nn (is_ascribe h) = refl
-  no_name_form names text p f x nn (is_apply h k) = refl
-  no_name_form names text p f x nn (is_call h k) = refl
-  no_name_form names text p f x nn (is_lambda h) = refl
-  no_name_form names text p f x nn (is_method h) = refl
-  no_name_form names text p f x nn (is_let h k) = refl
-  no_name_form names text p f x nn (is_letrec h k) = refl
-  no_name_form names text p f x nn (is_match h k) = refl
-  no_name_form names text p f x nn (is_check h k) = refl
-  no_name_form names text p f x nn (is_try h) = refl
-  no_name_form names text p f x nn (is_seq h) = refl
-  no_name_form names text p f x nn (is_assume h k) = refl
-  no_name_form names text p f x nn (is_absurd h k) = refl
-  no_name_form names text p f x nn (is_pick_any h) = refl
-  no_name_form names text p f x nn (is_pick_witness h k) = refl
-  no_name_form names text p f x nn (is_induct h k) = refl
-  no_name_form names text p f x nn (is_cases h k) = refl
-  no_name_form names text p f x nn (is_conclude h k) = refl
-
-  pub no_name_here : (names : List (List ℕ)) (text : List ℕ) (i : PhraseId) (n : Node) → slice_get s.phrases i.0 ≡ Some n → ((y : Sym) → n.form ≡ Name y → ⊥) → (x : Phrase) → IsPhrase s i x → false ≡ built.is_name names text x
-  no_name_here names text i n at nn x h = no_name_form names text n.pos n.form x nn (form_here s i n x h at)
-
-  pub head_here : (names : List (List ℕ)) (i : PhraseId) (n : Node) (y : Sym) → slice_get s.phrases i.0 ≡ Some n → n.form ≡ Name y → (x : Phrase) → IsPhrase s i x → not (bytes_eq (text_of names y) (codes "forall") || bytes_eq (text_of names y) (codes "exists")) ≡ built.is_head names x
-  head_here names i n y at e x h = go x (subst (λ (f : Form). IsForm s n.pos f x) e (form_here s i n x h at))
+  pub head_here : (i : PhraseId) (n : Node) (y : Sym) → slice_get s.phrases i.0 ≡ Some n → n.form ≡ Name y → (x : Phrase) → IsPhrase s i x → true ≡ built.is_head x
+  head_here i n y at e x h = go x (subst (λ (f : Form). IsForm s n.pos f x) e (form_here s i n x h at))
     where
-      go : (x : Phrase) → IsForm s n.pos (Name y) x → not (bytes_eq (text_of names y) (codes "forall") || bytes_eq (text_of names y) (codes "exists")) ≡ built.is_head names x
+      go : (x : Phrase) → IsForm s n.pos (Name y) x → true ≡ built.is_head x
       go x is_name = refl
 
-  no_head_form : (names : List (List ℕ)) (p : Pos) (f : Form) (x : Phrase) → ((y : Sym) → f ≡ Name y → ⊥) → IsForm s p f x → false ≡ built.is_head names x
-  no_head_form names p f x nn (is_name {x = y}) = absurd (nn y refl)
-  no_head_form names p f x nn is_variable = refl
-  no_head_form names p f x nn is_string = refl
-  no_head_form names p f x nn (is_list h) = refl
-  no_head_form names p f x nn (is_ascribe h) = refl
-  no_head_form names p f x nn (is_apply h k) = refl
-  no_head_form names p f x nn (is_call h k) = refl
-  no_head_form names p f x nn (is_lambda h) = refl
-  no_head_form names p f x nn (is_method h) = refl
-  no_head_form names p f x nn (is_let h k) = refl
-  no_head_form names p f x nn (is_letrec h k) = refl
-  no_head_form names p f x nn (is_match h k) = refl
-  no_head_form names p f x nn (is_check h k) = refl
-  no_head_form names p f x nn (is_try h) = refl
-  no_head_form names p f x nn (is_seq h) = refl
-  no_head_form names p f x nn (is_assume h k) = refl
-  no_head_form names p f x nn (is_absurd h k) = refl
-  no_head_form names p f x nn (is_pick_any h) = refl
-  no_head_form names p f x nn (is_pick_witness h k) = refl
-  no_head_form names p f x nn (is_induct h k) = refl
-  no_head_form names p f x nn (is_cases h k) = refl
-  no_head_form names p f x nn (is_conclude h k) = refl
+  no_head_form : (p : Pos) (f : Form) (x : Phrase) → ((y : Sym) → f ≡ Name y → ⊥) → IsForm s p f x → false ≡ built.is_head x
+  no_head_form p f x nn (is_name {x = y}) = absurd (nn y refl)
+  no_head_form p f x nn is_variable = refl
+  no_head_form p f x nn is_string = refl
+  no_head_form p f x nn (is_list h) = refl
+  no_head_form p f x nn (is_ascribe h) = refl
+  no_head_form p f x nn (is_apply h k) = refl
+  no_head_form p f x nn (is_call h k) = refl
+  no_head_form p f x nn (is_lambda h) = refl
+  no_head_form p f x nn (is_method h) = refl
+  no_head_form p f x nn (is_let h k) = refl
+  no_head_form p f x nn (is_letrec h k) = refl
+  no_head_form p f x nn (is_match h k) = refl
+  no_head_form p f x nn (is_check h k) = refl
+  no_head_form p f x nn (is_try h) = refl
+  no_head_form p f x nn (is_seq h) = refl
+  no_head_form p f x nn (is_assume h k) = refl
+  no_head_form p f x nn (is_absurd h k) = refl
+  no_head_form p f x nn (is_pick_any h) = refl
+  no_head_form p f x nn (is_pick_witness h k) = refl
+  no_head_form p f x nn (is_induct h k) = refl
+  no_head_form p f x nn (is_cases h k) = refl
+  no_head_form p f x nn (is_conclude h k) = refl
 
-  pub no_head_here : (names : List (List ℕ)) (i : PhraseId) (n : Node) → slice_get s.phrases i.0 ≡ Some n → ((y : Sym) → n.form ≡ Name y → ⊥) → (x : Phrase) → IsPhrase s i x → false ≡ built.is_head names x
-  no_head_here names i n at nn x h = no_head_form names n.pos n.form x nn (form_here s i n x h at)
+  pub no_head_here : (i : PhraseId) (n : Node) → slice_get s.phrases i.0 ≡ Some n → ((y : Sym) → n.form ≡ Name y → ⊥) → (x : Phrase) → IsPhrase s i x → false ≡ built.is_head x
+  no_head_here i n at nn x h = no_head_form n.pos n.form x nn (form_here s i n x h at)
+
+  no_name : (names : List (List ℕ)) (text : List ℕ) (x : Phrase) → false ≡ built.is_head x → false ≡ built.is_name names text x
+  no_name names text (name_at p y) e = absurd (cc)
+  no_name names text x e = refl
+
+  pub no_name_here : (names : List (List ℕ)) (text : List ℕ) (i : PhraseId) (n : Node) → slice_get s.phrases i.0 ≡ Some n → ((y : Sym) → n.form ≡ Name y → ⊥) → (x : Phrase) → IsPhrase s i x → false ≡ built.is_name names text x
+  no_name_here names text i n at nn x h = no_name names text x (no_head_here i n at nn x h)
 
   -- ---- heads and parts
   pub record Application (p : Pos) (j : PhraseId) (is : List PhraseId) (x : Phrase) : Type 0 where
@@ -168,7 +148,7 @@ module _ (s : Nodes) where
   parts_where is xs h true = h
   parts_where is xs h false = tt
 
-  pub apply_parts : (names : List (List ℕ)) (b : Bool) (i : PhraseId) (n : Node) (j : PhraseId) (is : List PhraseId) → slice_get s.phrases i.0 ≡ Some n → n.form ≡ Apply j is → ((y : Phrase) → IsPhrase s j y → b ≡ built.is_head names y) → (x : Phrase) → IsPhrase s i x → ArePartsOf s (cond b (Some is) None) (parts names x)
+  pub apply_parts : (names : List (List ℕ)) (b : Bool) (i : PhraseId) (n : Node) (j : PhraseId) (is : List PhraseId) → slice_get s.phrases i.0 ≡ Some n → n.form ≡ Apply j is → ((y : Phrase) → IsPhrase s j y → b ≡ built.is_head y) → (x : Phrase) → IsPhrase s i x → ArePartsOf s (cond b (Some is) None) (parts names x)
   apply_parts names b i n j is at e f x h =
       let a = apply_here i n j is at e x h in
       let k = parts_where is a.args a.are_args b in
@@ -288,7 +268,7 @@ unbuilt_by_parts : (names : List (List ℕ)) (x : Phrase) → built.unbuilt name
 unbuilt_by_parts names (name_at p n) = refl
 unbuilt_by_parts names (variable_at p x k s) = refl
 unbuilt_by_parts names (ascribe_at p x s) = sym (or_none (built.unbuilt names x))
-unbuilt_by_parts names (apply_at p f xs) = told_where names (apply_at p f xs) xs (built.is_head names f)
+unbuilt_by_parts names (apply_at p f xs) = told_where names (apply_at p f xs) xs (built.is_head f)
 unbuilt_by_parts names (call_at p f xs) = told_where names (call_at p f xs) xs (built.is_method_name names f && built.are_expressions xs)
 unbuilt_by_parts names x = refl
 

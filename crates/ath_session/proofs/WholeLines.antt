@@ -13,6 +13,7 @@ use Rattle.ath_declarations.specs.Declarations as after
 use Rattle.ath_syntax.specs.declared.place.Pos.{Pos}
 use Rattle.ath_syntax.specs.Tree.{Statement, domain_is, datatype_is, declare_is, define_is, define_fun_is, assert_is, load_is, phrase_is, DirectiveTree, directive_at}
 use Rattle.ath_trees.specs.Tree.{Sent}
+use Rattle.ath_construction.specs.Construction.{Built, builds, refuses}
 use Rattle.ath_env.specs.Values.{sentence_of}
 use Rattle.ath_print.specs.declared.fault.FaultKind.TheVariants.{FileTooLong, TooManyLoads}
 use Rattle.ath_print.specs.Events as events
@@ -24,7 +25,7 @@ use Rattle.ath_eval.specs.Evaluation.{outcome_of}
 use Rattle.ath_syntax.specs.Places.{place}
 use Rattle.ath_session.specs.State.{State, context, environment, left, with_left, with_names}
 use Rattle.ath_session.specs.Unbuilt.{unbuilt_in}
-use Rattle.ath_session.specs.Directives.{Continuation, goes_on, loads, ends, Effect, declaring, asserting, asserting_sentence, showing, done, unless_unbuilt, effect}
+use Rattle.ath_session.specs.Directives.{Continuation, goes_on, loads, ends, Effect, declaring, to_assert, asserting, asserting_sentence, asserting_built, showing, done, unless_unbuilt, effect}
 use Rattle.ath_session.specs.declared.limits.TheConstants.{MOST_BYTES, MOST_ASKED, MOST_LOADS}
 use Rattle.ath_session.specs.Run.{Item, asks, tells, Configuration, Halt, Move, goes, halts, reading_of, opened, fetched, asking, beginning_of, next_file, tell_all, following, place_of, turned, IsTurn, Runs, at_start, one_more, said}
 use Rattle.ath_session.specs.Report.{said_in, start, IsLogOf}
@@ -69,15 +70,19 @@ declaring_names : (st : State) (at : Pos) (x : events.Event) (o : Result Signatu
 declaring_names st at x (Ok sig) = refl
 declaring_names st at x (Err e) = refl
 
-sentence_names : (st : State) (at : Pos) (p : Option Sent) → HasNames st.names (asserting_sentence st at p)
-sentence_names st at (Some p) = refl
-sentence_names st at None = refl
+built_names : (st : State) (at : Pos) (b : Built Sent) → HasNames st.names (asserting_built st at b)
+built_names st at (builds p) = refl
+built_names st at (refuses why) = refl
 
-asserting_names : (st : State) (at : Pos) (o : Outcome) → HasNames st.names (asserting st at o)
-asserting_names st at (gives v after) = sentence_names (with_left st after) at (sentence_of v)
-asserting_names st at (concludes p after) = refl
-asserting_names st at (fails inner why after) = refl
-asserting_names st at (exhausts inner made) = refl
+sentence_names : (st : State) (closed : Bool) (at : Pos) (o : Option Sent) → HasNames st.names (asserting_sentence st closed at o)
+sentence_names st closed at (Some p) = built_names st at (to_assert closed p)
+sentence_names st closed at None = refl
+
+asserting_names : (st : State) (closed : Bool) (at : Pos) (o : Outcome) → HasNames st.names (asserting st closed at o)
+asserting_names st closed at (gives v after) = sentence_names (with_left st after) closed at (sentence_of v)
+asserting_names st closed at (concludes p after) = sentence_names (with_left st after) closed at (Some p)
+asserting_names st closed at (fails inner why after) = refl
+asserting_names st closed at (exhausts inner made) = refl
 
 showing_names : (st : State) (o : Outcome) → HasNames st.names (showing st o)
 showing_names st (gives v after) = refl
@@ -87,7 +92,7 @@ showing_names st (exhausts at made) = refl
 
 done_names : (st : State) (at : Pos) (s : Statement) → HasNames st.names (done st at s)
 done_names st at (declare_is ns params args result) = declaring_names st at (events.symbols_added ns) (after.declared st.signature ns params args result)
-done_names st at (assert_is n closed x) = asserting_names st (place x) (outcome_of (context st) (environment st) x (left st))
+done_names st at (assert_is n closed x) = asserting_names st closed (place x) (outcome_of (context st) (environment st) x (left st))
 done_names st at (load_is name) = refl
 done_names st at (phrase_is x) = showing_names st (outcome_of (context st) (environment st) x (left st))
 done_names st at (domain_is n vs) = declaring_names st at (events.domain_added n) (after.domain_declared st.signature n vs)

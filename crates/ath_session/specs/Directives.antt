@@ -1,6 +1,6 @@
 -- The effect of a directive: the state after it, and its events. One that is refused has one event, and keeps all of the
 -- state but the fuel and the counters.
-use Rattle.std.specs.Prelude.{ℕ, List, [], ◌∷◌, Option, Some, None, Result, Ok, Err}
+use Rattle.std.specs.Prelude.{ℕ, Bool, true, false, List, [], ◌∷◌, Option, Some, None, Result, Ok, Err}
 use Rattle.ath_sorts.specs.declared.signature.Flaw.{Flaw}
 use Rattle.ath_sorts.specs.declared.signature.Flaw.TheVariants as flaw
 use Rattle.ath_sorts.specs.Signature.{Signature}
@@ -9,9 +9,12 @@ use Rattle.ath_syntax.specs.declared.place.Pos.{Pos}
 use Rattle.ath_syntax.specs.Tree.{Phrase, Statement, domain_is, datatype_is, declare_is, define_is, define_fun_is, assert_is, load_is, phrase_is, DirectiveTree, directive_at}
 use Rattle.ath_terms.specs.declared.fresh.Fresh.{Fresh}
 use Rattle.ath_trees.specs.Tree.{Sent}
+use Rattle.ath_construction.specs.Construction.{Built, builds, refuses}
+use Rattle.ath_construction.specs.Closure.{universal_closure}
 use Rattle.ath_env.specs.Values.{sentence_of}
 use Rattle.ath_print.specs.declared.fault.FaultKind.TheVariants.{NotBuilt, NotSentence, Redeclared, TooWide, UnknownSort, Arity, SortTooLarge, LooseParam}
 use Rattle.ath_print.specs.Events.{name_named, variable_named, Refusal, Event, domain_added, symbols_added, asserted, proved, shown, refused, exhausted}
+use Rattle.ath_eval.specs.Building.{told}
 use Rattle.ath_eval.specs.Outcomes.{left_of, Outcome, gives, concludes, fails, exhausts, refusal}
 use Rattle.ath_eval.specs.Evaluation.{outcome_of}
 use Rattle.ath_syntax.specs.Places.{place}
@@ -49,23 +52,32 @@ declaration_refusal (flaw.LooseParam n) = refusal LooseParam (variable_named n �
 
 -- a domain or symbols are declared, or they are refused
 abbrev pub declaring : State → Pos → Event → Result Signature Flaw → Effect
-declaring st at told (Ok sig) = telling (with_signature st sig) told
-declaring st at told (Err f) = refusing st at (declaration_refusal f)
+declaring st at event (Ok sig) = telling (with_signature st sig) event
+declaring st at event (Err f) = refusing st at (declaration_refusal f)
 
 -- no fuel is left, and the run ends
 abbrev pub ending : State → Pos → Fresh → Effect
 ending st at made = record { state = with_left st (left_of 0 made); events = exhausted at ∷ []; next = ends }
 
--- a sentence joins the base as asserted
-abbrev pub asserting_sentence : State → Pos → Option Sent → Effect
-asserting_sentence st at (Some p) = telling (joining st Asserted p) (asserted p)
-asserting_sentence st at None = refusing st at (refusal NotSentence [])
+-- what is asserted of a sentence: itself, or where it is to be closed its universal closure
+abbrev pub to_assert : Bool → Sent → Built Sent
+to_assert false p = builds p
+to_assert true p = universal_closure p
 
-abbrev pub asserting : State → Pos → Outcome → Effect
-asserting st at (gives v after) = asserting_sentence (with_left st after) at (sentence_of v)
-asserting st at (concludes p after) = asserting_sentence (with_left st after) at (Some p)
-asserting st at (fails inner why after) = refusing (with_left st after) inner why
-asserting st at (exhausts inner made) = ending st inner made
+-- a sentence joins the base as asserted
+abbrev pub asserting_built : State → Pos → Built Sent → Effect
+asserting_built st at (builds p) = telling (joining st Asserted p) (asserted p)
+asserting_built st at (refuses why) = refusing st at (told why)
+
+abbrev pub asserting_sentence : State → Bool → Pos → Option Sent → Effect
+asserting_sentence st closed at (Some p) = asserting_built st at (to_assert closed p)
+asserting_sentence st closed at None = refusing st at (refusal NotSentence [])
+
+abbrev pub asserting : State → Bool → Pos → Outcome → Effect
+asserting st closed at (gives v after) = asserting_sentence (with_left st after) closed at (sentence_of v)
+asserting st closed at (concludes p after) = asserting_sentence (with_left st after) closed at (Some p)
+asserting st closed at (fails inner why after) = refusing (with_left st after) inner why
+asserting st closed at (exhausts inner made) = ending st inner made
 
 -- a conclusion joins the base, and a value is shown
 abbrev pub showing : State → Outcome → Effect
@@ -86,7 +98,7 @@ outcome_in st x = outcome_of (context st) (environment st) x (left st)
 abbrev pub done : State → Pos → Statement → Effect
 done st at (domain_is n vs) = declaring st at (domain_added n) (after.domain_declared st.signature n vs)
 done st at (declare_is ns params args result) = declaring st at (symbols_added ns) (after.declared st.signature ns params args result)
-done st at (assert_is n closed x) = asserting st (place x) (outcome_in st x)
+done st at (assert_is n closed x) = asserting st closed (place x) (outcome_in st x)
 done st at (load_is name) = loading st name
 done st at (phrase_is x) = showing st (outcome_in st x)
 done st at (datatype_is n vs cs) = refusing st at (refusal NotBuilt [])

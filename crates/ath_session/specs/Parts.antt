@@ -11,7 +11,7 @@ abbrev pub parts : List (List ℕ) → Phrase → Option Phrases
 parts names (name_at p n) = Some no_phrases
 parts names (variable_at p x k s) = Some no_phrases
 parts names (ascribe_at p x s) = Some (more_phrases x no_phrases)
-parts names (apply_at p f xs) = if is_head names f then Some xs else None
+parts names (apply_at p f xs) = if is_head f then Some xs else None
 parts names (call_at p f xs) = if is_method_name names f && are_expressions xs then Some xs else None
 parts names x = None
 

@@ -1,5 +1,5 @@
 -- What isn't built yet, and where. A phrase is built where it is a name, a variable, an ascription of a built phrase, an
--- application of a name other than a quantifier's to built phrases, or a call of `claim` or `mp` with built expressions.
+-- application of a name to built phrases, or a call of `claim` or `mp` with built expressions.
 use Rattle.std.specs.Prelude.{ℕ, Bool, true, false, ◌&&◌, ◌||◌, not, List, Option, Some, None, codes, if◌then◌else◌}
 use Rattle.std.specs.Str.{bytes_eq}
 use Rattle.ath_syntax.specs.declared.place.Pos.{Pos}
@@ -12,10 +12,10 @@ abbrev pub is_name : List (List ℕ) → List ℕ → Phrase → Bool
 is_name names text (name_at p n) = bytes_eq (text_of names n) text
 is_name names text x = false
 
--- whether a phrase is a name that an application may have as its head
-abbrev pub is_head : List (List ℕ) → Phrase → Bool
-is_head names (name_at p n) = not (bytes_eq (text_of names n) (codes "forall") || bytes_eq (text_of names n) (codes "exists"))
-is_head names x = false
+-- whether an application of the phrase may be built: it is a name
+abbrev pub is_head : Phrase → Bool
+is_head (name_at p n) = true
+is_head x = false
 
 abbrev pub is_method_name : List (List ℕ) → Phrase → Bool
 is_method_name names x = is_name names (codes "mp") x || is_name names (codes "claim") x
@@ -35,7 +35,7 @@ abbrev mutual
   unbuilt names (name_at p n) = None
   unbuilt names (variable_at p x k s) = None
   unbuilt names (ascribe_at p x s) = unbuilt names x
-  unbuilt names (apply_at p f xs) = if is_head names f then unbuilt_among names xs else Some p
+  unbuilt names (apply_at p f xs) = if is_head f then unbuilt_among names xs else Some p
   unbuilt names (call_at p f xs) = if is_method_name names f && are_expressions xs then unbuilt_among names xs else Some p
   unbuilt names x = Some (place x)
 
@@ -47,8 +47,7 @@ abbrev mutual
 abbrev pub unbuilt_in : List (List ℕ) → Pos → Statement → Option Pos
 unbuilt_in names at (domain_is n vs) = None
 unbuilt_in names at (declare_is ns params args result) = None
-unbuilt_in names at (assert_is None false x) = unbuilt names x
-unbuilt_in names at (assert_is None true x) = Some at
+unbuilt_in names at (assert_is None closed x) = unbuilt names x
 unbuilt_in names at (assert_is (Some n) closed x) = Some at
 unbuilt_in names at (load_is name) = None
 unbuilt_in names at (phrase_is x) = unbuilt names x

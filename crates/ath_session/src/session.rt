@@ -12,25 +12,29 @@ ghost use Rattle.ath_syntax.specs.Places.{place};
 ghost use Rattle.ath_eval.specs.Outcomes.{refusal};
 ghost use Rattle.ath_env.specs.Values.{sentence_of};
 ghost use Rattle.ath_env.specs.Stands.{IsIn, value_at};
-ghost use Rattle.ath_terms.specs.Trees.{Trees, sent_at};
+ghost use Rattle.ath_construction.specs.Answers.{IsSentBuilt};
+ghost use Rattle.ath_sorts.specs.Signature.{Signature as Declared};
+ghost use Rattle.ath_terms.specs.SortsIn.{IsSortedIn};
+ghost use Rattle.ath_terms.specs.Trees.{Trees, Grows, sent_at};
 ghost use Rattle.ath_print.specs.Events.{domain_added, symbols_added};
 ghost use Rattle.ath_print.specs.Stands.{IsFault, IsFaultIn, event_of, refusal_of};
-ghost use Rattle.ath_session.specs.Directives.{outcome_in, effect, done, declaring, declaration_refusal, asserting, asserting_sentence, showing, loading, refusing};
+ghost use Rattle.ath_session.specs.Directives.{outcome_in, effect, done, declaring, declaration_refusal, asserting, asserting_built, asserting_sentence, to_assert, showing, loading, refusing};
 ghost use Rattle.ath_session.specs.Session.{state_of, ParamsDiffer, IsReply, KeepsNumbers};
 ghost use Rattle.ath_session.specs.Sound.{IsSound, AreFollowing};
 ghost use Rattle.ath_session.specs.State.{first_state, joining, with_names};
 
 use crate::unbuilt::unbuilt_in;
 use ath_base::{Base, Origin};
+use ath_construction::universal_closure;
 use ath_declarations::{DeclareError, declare, declare_domain};
 use ath_env::{Value, sentence};
-use ath_eval::{Outcome, World, run};
+use ath_eval::{Outcome, World, build_fault, run};
 use ath_names::Names;
 use ath_print::{Event, Fault, FaultArg, FaultKind};
 use ath_reader::{OpTable, Reader, SyntaxError};
 use ath_sorts::{Flaw, Signature, Sym};
 use ath_syntax::{Directive, PhraseId, Phrases, Pos, SortText, What};
-use ath_terms::{Fresh, Store};
+use ath_terms::{BuildError, Fresh, Store};
 use ath_trees::SentId;
 use ath_words::limits::MOST_FUEL;
 use sqlite_items::Items;
@@ -101,6 +105,25 @@ fn declaration_fault(alloc: Global, flaw: Flaw) -> Result<Fault, AllocError>
         Flaw::SortTooLarge => Ok(Fault::plain(alloc, FaultKind::SortTooLarge)),
         Flaw::LooseParam(n) => Fault::naming(alloc, FaultKind::LooseParam, FaultArg::SortName(n)),
     }
+}
+
+/// What is asserted of a sentence: itself, or where it is to be closed its universal closure.
+fn to_assert(
+    alloc: Global,
+    store: &mut Store,
+    closed: bool,
+    p: SentId,
+) -> Result<SentId, BuildError>
+    requires { p.0 < length store.old.sents }
+    ensures grows { Grows store.old store.new }
+    ensures inside { IfOk result (λ r. r.0 < length store.new.sents) }
+    ensures built { IsSentBuilt store.new (to_assert closed (sent_at store.old.sents p.0)) result }
+    ensures sorted { (sig : Declared) → IsSortedIn sig store.old → IsSortedIn sig store.new }
+{
+    if closed {
+        return universal_closure(alloc, store, p);
+    }
+    Ok(p)
 }
 
 impl Session {
@@ -219,7 +242,7 @@ impl Session {
                     result_sort,
                 )
             }
-            What::Assert(_, _, phrase) => self.assert(alloc, *phrase),
+            What::Assert(_, closed, phrase) => self.assert(alloc, *closed, *phrase),
             What::Load(name) => self.load(alloc, name.as_str()),
             What::Phrase(phrase) => self.show(alloc, *phrase),
             _other => self.refusal(
@@ -300,33 +323,63 @@ impl Session {
         Ok(())
     }
 
-    /// Asserts the sentence of a phrase.
-    fn assert(&mut self, alloc: Global, phrase: PhraseId) -> Result<Reply, AllocError>
+    /// Asserts the sentence of a phrase, or its universal closure.
+    fn assert(&mut self, alloc: Global, closed: bool, phrase: PhraseId) -> Result<Reply, AllocError>
         requires phrase { (x : Phrase) × IsPhrase self.old.world.phrases phrase x }
         ensures numbers { KeepsNumbers self.old.world self.new.world }
-        ensures reply { IfOk result (λ r. (x : Phrase) → IsPhrase self.old.world.phrases phrase x → IsReply self.new.world r (asserting (state_of self.old.world) (place x) (outcome_in (state_of self.old.world) x))) }
+        ensures reply { IfOk result (λ r. (x : Phrase) → IsPhrase self.old.world.phrases phrase x → IsReply self.new.world r (asserting (state_of self.old.world) closed (place x) (outcome_in (state_of self.old.world) x))) }
     {
         let at = self.world.phrases.node(phrase).pos;
         match run(alloc, &mut self.world, phrase)? {
-            Outcome::Value(value) => self.assert_value(alloc, at, value),
-            Outcome::Theorem(p) => self.assert_value(alloc, at, Value::Sent(p)),
+            Outcome::Value(value) => self.assert_value(alloc, closed, at, value),
+            Outcome::Theorem(p) => self.assert_value(alloc, closed, at, Value::Sent(p)),
             Outcome::Error(fault, at) => self.refusal(alloc, at, fault),
             Outcome::Exhausted(at) => ending(alloc, at),
         }
     }
 
-    fn assert_value(&mut self, alloc: Global, at: Pos, value: Value) -> Result<Reply, AllocError>
+    fn assert_value(
+        &mut self,
+        alloc: Global,
+        closed: bool,
+        at: Pos,
+        value: Value,
+    ) -> Result<Reply, AllocError>
         requires known { IsIn self.old.world.store value }
         ensures numbers { KeepsNumbers self.old.world self.new.world }
-        ensures reply { IfOk result (λ r. IsReply self.new.world r (asserting_sentence (state_of self.old.world) at (sentence_of (value_at self.old.world.store value)))) }
+        ensures reply { IfOk result (λ r. IsReply self.new.world r (asserting_sentence (state_of self.old.world) closed at (sentence_of (value_at self.old.world.store value)))) }
     {
         let Some(p) = sentence(&mut self.world.store, value)? else {
             let reply = self.refusal(alloc, at, Fault::plain(alloc, FaultKind::NotSentence))?;
             return Ok(reply);
         };
-        self.join(p, Origin::Asserted)?;
-        let reply = telling(alloc, Event::Assertion(p))?;
+        let reply = self.assert_sentence(alloc, closed, at, p)?;
         Ok(reply)
+    }
+
+    fn assert_sentence(
+        &mut self,
+        alloc: Global,
+        closed: bool,
+        at: Pos,
+        p: SentId,
+    ) -> Result<Reply, AllocError>
+        requires { p.0 < length self.old.world.store.sents }
+        ensures numbers { KeepsNumbers self.old.world self.new.world }
+        ensures reply { IfOk result (λ r. IsReply self.new.world r (asserting_built (state_of self.old.world) at (to_assert closed (sent_at self.old.world.store.sents p.0)))) }
+    {
+        match to_assert(alloc, &mut self.world.store, closed, p) {
+            Ok(p) => {
+                self.join(p, Origin::Asserted)?;
+                let reply = telling(alloc, Event::Assertion(p))?;
+                Ok(reply)
+            }
+            Err(error) => {
+                let fault = build_fault(alloc, error)?;
+                let reply = self.refusal(alloc, at, fault)?;
+                Ok(reply)
+            }
+        }
     }
 
     /// Shows the value of an expression; the conclusion of a deduction joins the base.

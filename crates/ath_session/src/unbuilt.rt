@@ -1,7 +1,6 @@
 // What isn't built yet.
 
-ghost use Rattle.std.specs.Prelude.{◌≡◌, ◌<◌, ◌||◌, codes, option_map, IfSome};
-ghost use Rattle.std.specs.Str.{bytes_eq};
+ghost use Rattle.std.specs.Prelude.{◌≡◌, ◌<◌, option_map, IfSome};
 ghost use Rattle.std.specs.List.{All};
 ghost use Rattle.ath_syntax.specs.Stands.{IsPhrase, ArePhrases, IsStatement};
 ghost use Rattle.ath_syntax.specs.Tree.{Phrase, Phrases as PhraseTrees, Statement};
@@ -23,19 +22,13 @@ fn is_name(names: &Names, phrases: &Phrases, phrase: PhraseId, text: &str) -> bo
     }
 }
 
-fn is_quantifier(text: &str) -> bool
-    ensures { result ≡ (bytes_eq text.now (codes "forall") || bytes_eq text.now (codes "exists")) }
-{
-    text == "forall" || text == "exists"
-}
-
-/// Whether a phrase is a name that an application may have as its head.
-fn is_head(names: &Names, phrases: &Phrases, phrase: PhraseId) -> bool
+/// Whether a phrase is a name, of which an application may be built.
+fn is_head(phrases: &Phrases, phrase: PhraseId) -> bool
     requires { (x : Phrase) × IsPhrase phrases.now phrase x }
-    ensures { (x : Phrase) → IsPhrase phrases.now phrase x → result ≡ is_head names.now x }
+    ensures { (x : Phrase) → IsPhrase phrases.now phrase x → result ≡ is_head x }
 {
     match &phrases.node(phrase).form {
-        Form::Name(name) => !is_quantifier(text_of(names, *name)),
+        Form::Name(_) => true,
         _other => false,
     }
 }
@@ -70,7 +63,7 @@ fn built_parts<'a>(names: &Names, phrases: &'a Phrases, phrase: PhraseId) -> Opt
         Form::Var(_, _, _) => Some(&[]),
         Form::Ascribe(part, _) => Some(slice::from_ref(part)),
         Form::Apply(head, parts) => {
-            if is_head(names, phrases, *head) {
+            if is_head(phrases, *head) {
                 return Some(parts.as_slice());
             }
             None
@@ -109,8 +102,8 @@ pub(crate) fn unbuilt_in(names: &Names, phrases: &Phrases, at: Pos, what: &What)
     ensures { (x : Statement) → IsStatement phrases.now what.now x → result ≡ unbuilt_in names.now at x }
 {
     match what {
-        What::Assert(name, closed, phrase) => {
-            if name.is_some() || *closed {
+        What::Assert(name, _, phrase) => {
+            if name.is_some() {
                 return Some(at);
             }
             unbuilt(names, phrases, *phrase)

@@ -1,4 +1,4 @@
-use Rattle.std.proofs.Common.{◌≡◌, ◌||◌, Bool, false, is_some, refl, sym, ◌∙◌, ap}
+use Rattle.std.proofs.Common.{sym, ◌∙◌, ap}
 use Rattle.ath_session.specs.Unbuilt as built
 use Rattle.ath_session.proofs.StatementLaws.{domain_here, declare_here, assert_here, phrase_here, other_here, assert_bare}
 use Rattle.ath_session.proofs.unbuilt.unbuilt_in.Goals as goal
@@ -11,14 +11,11 @@ returns-in-Declare c = λ x h.
     let k = c.in-Declare in
     sym (ap (built.unbuilt_in c.args.names.now c.args.at) (declare_here c.args.phrases.now c.args.what.now x h k.field-0 k.field-1 k.field-2 k.field-3 k.is))
 
-both_false : (a b c : Bool) → c ≡ a → c ≡ false → b ≡ false → (a || b) ≡ false
-both_false a b c e p q = rw (← e, p, q) refl
-
-pub returns-else-closed : goal.returns-else-closed
-returns-else-closed c = λ x h.
+pub returns-else-is_some : goal.returns-else-is_some
+returns-else-is_some c = λ x h.
     let k = c.in-Assert in
-    let e = assert_here c.args.phrases.now c.args.what.now x h k.name k.closed k.phrase k.is in
-    c.unbuilt.ensures e.0 e.1 ∙ assert_bare c.args.names.now c.args.at k.name k.closed e.0 (both_false (is_some k.name) k.closed c.is_some.result c.is_some.ensures c.if-is_some.false c.if-closed.false) ∙ sym (ap (built.unbuilt_in c.args.names.now c.args.at) e.2)
+    let e = assert_here c.args.phrases.now c.args.what.now x h k.name k.field-1 k.phrase k.is in
+    c.unbuilt.ensures e.0 e.1 ∙ assert_bare c.args.names.now c.args.at k.name k.field-1 e.0 (sym c.is_some.ensures ∙ c.if-is_some.false) ∙ sym (ap (built.unbuilt_in c.args.names.now c.args.at) e.2)
 
 pub returns-in-Phrase : goal.returns-in-Phrase
 returns-in-Phrase c = λ x h.

@@ -15,7 +15,7 @@ returns-in-Declare-clause-reply c =
 pub returns-in-Assert-clause-reply : goal.returns-in-Assert-clause-reply
 returns-in-Assert-clause-reply c =
     let k = c.in-Assert in
-    assert_tells c.args.self.now.world c.assert.new.self.world c.args.directive.now.what c.args.directive.now.pos c.assert.result k.field-0 k.field-1 k.phrase k.is c.assert.ensures.reply
+    assert_tells c.args.self.now.world c.assert.new.self.world c.args.directive.now.what c.args.directive.now.pos c.assert.result k.field-0 k.closed k.phrase k.is c.assert.ensures.reply
 
 pub returns-in-Load-clause-reply : goal.returns-in-Load-clause-reply
 returns-in-Load-clause-reply c =

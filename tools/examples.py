@@ -60,7 +60,7 @@ use std::test::Fail;
 type Example = (&'static [(&'static [u8], u64)], &'static str);
 
 /// The text that these parts make.
-fn text_of(alloc: Global, parts: &[(&[u8], u64)]) -> Result<Vec<u8>, AllocError> {
+pub(crate) fn text_of(alloc: Global, parts: &[(&[u8], u64)]) -> Result<Vec<u8>, AllocError> {
     let mut text = Vec::new(alloc);
     for (part, times) in parts {
         for _ in 0..*times {

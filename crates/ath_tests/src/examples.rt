@@ -9,7 +9,7 @@ use std::test::Fail;
 type Example = (&'static [(&'static [u8], u64)], &'static str);
 
 /// The text that these parts make.
-fn text_of(alloc: Global, parts: &[(&[u8], u64)]) -> Result<Vec<u8>, AllocError> {
+pub(crate) fn text_of(alloc: Global, parts: &[(&[u8], u64)]) -> Result<Vec<u8>, AllocError> {
     let mut text = Vec::new(alloc);
     for (part, times) in parts {
         for _ in 0..*times {
@@ -112,23 +112,32 @@ const EXAMPLES: [Example; 29] = [
     (&[(b"assert A\n", 1)], "Error: \"x.ath\":1:8: Unbound A\n"),
     // ArgCount
     (
-        &[(b"declare A: Boolean\n(if A)\n", 1)],
-        "Symbols: A\nError: \"x.ath\":2:1: ArgCount 2 1\n",
+        &[(b"declare A: Boolean\n(if A)\n(forall ?x)\n", 1)],
+        "Symbols: A\nError: \"x.ath\":2:1: ArgCount 2 1\nError: \"x.ath\":3:1: ArgCount 2 1\n",
     ),
     // WrongKind
     (
-        &[(b"declare f: [Boolean] -> Boolean\n(f not)\n", 1)],
-        "Symbols: f\nError: \"x.ath\":2:1: WrongKind 1\n",
+        &[(
+            b"declare f: [Boolean] -> Boolean\n(f not)\ndeclare c: Boolean\n(forall ?x c (f ?x))\n",
+            1,
+        )],
+        "Symbols: f\nError: \"x.ath\":2:1: WrongKind 1\nSymbols: c\nError: \"x.ath\":4:1: WrongKind 2\n",
     ),
     // SortClash
     (
-        &[(b"domain N\ndeclare zero: N\n(= zero true)\n", 1)],
-        "Domain: N\nSymbols: zero\nError: \"x.ath\":3:1: SortClash N Boolean\n",
+        &[(
+            b"domain N\ndeclare zero: N\n(= zero true)\n(exists ?x:Boolean (= ?x zero))\n",
+            1,
+        )],
+        "Domain: N\nSymbols: zero\nError: \"x.ath\":3:1: SortClash N Boolean\nError: \"x.ath\":4:1: SortClash Boolean N\n",
     ),
     // NotBoolean
     (
-        &[(b"domain N\ndeclare zero: N\n(and zero true)\n", 1)],
-        "Domain: N\nSymbols: zero\nError: \"x.ath\":3:1: NotBoolean zero\n",
+        &[(
+            b"domain N\ndeclare zero: N\n(and zero true)\n(forall ?x zero)\n",
+            1,
+        )],
+        "Domain: N\nSymbols: zero\nError: \"x.ath\":3:1: NotBoolean zero\nError: \"x.ath\":4:1: NotBoolean zero\n",
     ),
     // NotApplicable
     (
@@ -137,8 +146,8 @@ const EXAMPLES: [Example; 29] = [
     ),
     // NotSentence
     (
-        &[(b"domain N\nassert ?x:N\n", 1)],
-        "Domain: N\nError: \"x.ath\":2:8: NotSentence\n",
+        &[(b"domain N\nassert ?x:N\nassert* ?x\n", 1)],
+        "Domain: N\nError: \"x.ath\":2:8: NotSentence\nError: \"x.ath\":3:9: NotSentence\n",
     ),
     // TooLarge
     (
@@ -151,13 +160,22 @@ const EXAMPLES: [Example; 29] = [
     ),
     // TooDeep, of a sentence
     (
-        &[(b"declare A: Boolean\n(and", 1), (b" A", 2001), (b")\n", 1)],
-        "Symbols: A\nError: \"x.ath\":2:1: TooDeep 2001\n",
+        &[
+            (b"declare A: Boolean\n(and", 1),
+            (b" A", 2001),
+            (b")\nassert* (and", 1),
+            (b" A", 1999),
+            (b" ?b)\n", 1),
+        ],
+        "Symbols: A\nError: \"x.ath\":2:1: TooDeep 2001\nError: \"x.ath\":3:9: TooDeep 2001\n",
     ),
     // NotInBase
     (
-        &[(b"declare A: Boolean\n(!claim A)\n", 1)],
-        "Symbols: A\nError: \"x.ath\":2:1: NotInBase A\n",
+        &[(
+            b"declare A: Boolean\n(!claim A)\nassert (forall ?x (if ?x ?y))\n(!claim (forall ?z (if ?z ?y)))\n(!claim (forall ?x (if ?x ?z)))\n",
+            1,
+        )],
+        "Symbols: A\nError: \"x.ath\":2:1: NotInBase A\nAssertion: (forall ?x:Boolean (if ?x ?y:Boolean))\nTheorem: (forall ?z:Boolean (if ?z ?y:Boolean))\nError: \"x.ath\":5:1: NotInBase (forall ?x:Boolean (if ?x ?z:Boolean))\n",
     ),
     // WrongShape
     (

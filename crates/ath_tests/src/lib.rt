@@ -9,4 +9,6 @@ mod declarations;
 #[cfg(test)]
 mod examples;
 #[cfg(test)]
+mod quantifiers;
+#[cfg(test)]
 mod reports;

@@ -35,7 +35,7 @@ fn shelf_of(alloc: Global, files: &[(&str, &[u8])]) -> Result<MemoryShelf, Alloc
 }
 
 /// Runs these words over a shelf of these files, and compares the lines and the status with these.
-fn expect_report(
+pub(crate) fn expect_report(
     rt: &(impl Abort + AllocGlobal),
     named: &[&str],
     files: &[(&str, &[u8])],

@@ -117,15 +117,16 @@ fails-not-spent place why left at last e = cc
 same_number : (m n : ℕ) → (m == n) ≡ true → m ≡ n
 same_number m n e = grind (arith, common_steps)
 
-in-base : (base : List Entry) (p : Sent) (e : Entry) → holds base p ≡ Some e → IsAmong e.sentence (sentences base) × AlphaEqual e.sentence p
+-- an entry by which p holds
+abbrev IsHeld : Sent → Entry → List Sent → Type 0
+IsHeld p e ps = IsAmong e.sentence ps × AlphaEqual e.sentence p
+
+in-base : (base : List Entry) (p : Sent) (e : Entry) → holds base p ≡ Some e → IsHeld p e (sentences base)
 in-base [] p e h = absurd (cc)
 in-base (d ∷ base) p e h = go (is_alpha_equal d.sentence p) (in-base base p e) refl h
   where
-    abbrev IsHeld : Entry → List Sent → Type 0
-    IsHeld e ps = IsAmong e.sentence ps × AlphaEqual e.sentence p
-
-    go : (b : Bool) → (holds base p ≡ Some e → IsHeld e (sentences base)) → is_alpha_equal d.sentence p ≡ b → (if b then Some d else holds base p) ≡ Some e → IsHeld e (d.sentence ∷ sentences base)
-    go true rec f g = let k : d ≡ e = cc in subst (λ (x : Entry). IsHeld x (d.sentence ∷ sentences base)) k (inl refl, (alpha_told d.sentence p).0 f)
+    go : (b : Bool) → (holds base p ≡ Some e → IsHeld p e (sentences base)) → is_alpha_equal d.sentence p ≡ b → (if b then Some d else holds base p) ≡ Some e → IsHeld p e (d.sentence ∷ sentences base)
+    go true rec f g = let k : d ≡ e = cc in subst (λ (x : Entry). IsHeld p x (d.sentence ∷ sentences base)) k (inl refl, (alpha_told d.sentence p).0 f)
     go false rec f g = let r = rec g in (inr r.0, r.1)
 
 all-last : (P : Value → Type 0) (vs : List Value) (v : Value) → AllByRecursion P vs → P v → AllByRecursion P (vs ++ v ∷ [])

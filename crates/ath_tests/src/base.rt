@@ -1,0 +1,38 @@
+use ath_base::{Base, Origin};
+use ath_sorts::{Sort, Sym};
+use ath_terms::{SentNode, Store};
+use ath_trees::Var;
+use sqlite_items::Items;
+use std::alloc::Global;
+use std::process::Abort;
+use std::test::Fail;
+
+fn variable(alloc: Global, name: Sym) -> Var {
+    Var {
+        name,
+        index: 0,
+        sort: Sort::Con(Sym(0), Items::new(alloc)),
+    }
+}
+
+#[test]
+fn the_newest_entry_is_answered(rt: HostRuntime) -> Result<(), Fail> {
+    let alloc = rt.alloc();
+    let mut store = Store::new(alloc);
+    let x = store.var(alloc, &variable(alloc, Sym(150)))?;
+    let y = store.var(alloc, &variable(alloc, Sym(151)))?;
+    let p = store.raw_sent(alloc, &SentNode::Eq(x, x))?;
+    let q = store.raw_sent(alloc, &SentNode::Eq(x, x))?;
+    let r = store.raw_sent(alloc, &SentNode::Eq(x, y))?;
+    let mut base = Base::new(alloc);
+    assert!(rt; base.holds(&store, p).is_none());
+    base.add(p, Origin::Hypothesis)?;
+    base.add(q, Origin::Concluded)?;
+    assert!(rt; base.holds(&store, r).is_none());
+    base.add(r, Origin::Asserted)?;
+    let Some(entry) = base.holds(&store, p) else {
+        panic!(rt; "it doesn't hold");
+    };
+    assert!(rt; matches!(entry.origin, Origin::Concluded));
+    Ok(())
+}

@@ -4,8 +4,6 @@
 pub mod laws;
 pub mod limits;
 pub mod node;
-#[cfg(test)]
-mod tests;
 
 pub use limits::{MOST_PARTS, MOST_TERM_LEVELS, MOST_TERM_NODES};
 pub use node::{Binary, Conn, Quant, SentId, TermId, Var};

@@ -10,6 +10,8 @@ mod partition;
 pub mod signature;
 pub mod sorts;
 pub mod substitution;
+#[cfg(test)]
+mod tests;
 pub mod unification;
 
 pub use matching::instance;

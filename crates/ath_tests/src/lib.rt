@@ -19,8 +19,6 @@ mod quantifiers;
 #[cfg(test)]
 mod reports;
 #[cfg(test)]
-mod sorts;
-#[cfg(test)]
 mod subst;
 #[cfg(test)]
 mod terms;

@@ -3,10 +3,10 @@
 // Sorts are written behind their arguments: a letter from `u` on is a written variable, a digit a made one, `n` and `m`
 // are constants, `l` has one argument and `p` two. A `;` makes a pair of the last two sorts.
 
-use ath_sorts::signature::{SigError, Signature};
-use ath_sorts::sorts::{SVar, Sort, Sym, is_same};
-use ath_sorts::substitution::{SortSubst, UnifyError};
-use ath_sorts::{instance, unify};
+use crate::signature::{SigError, Signature};
+use crate::sorts::{SVar, Sort, Sym, is_same};
+use crate::substitution::{SortSubst, UnifyError};
+use crate::{instance, unify};
 use sqlite_items::Items;
 use std::alloc::{AllocError, Global};
 use std::test::Fail;

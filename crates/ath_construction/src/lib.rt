@@ -8,8 +8,6 @@ pub mod equations;
 pub mod pairs;
 pub mod quantifiers;
 pub mod term;
-#[cfg(test)]
-mod tests;
 
 pub use application::app;
 pub use closure::universal_closure;

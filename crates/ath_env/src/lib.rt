@@ -2,8 +2,6 @@
 #![tactic(auto)]
 
 pub mod lookup;
-#[cfg(test)]
-mod tests;
 pub mod value;
 
 pub use lookup::{look_up, text_of};

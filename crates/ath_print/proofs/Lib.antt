@@ -1,4 +1,3 @@
-mod EmptyStore
 mod PieceLaws
 pub mod PrefixLaws
 mod Rows

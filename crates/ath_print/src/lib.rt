@@ -9,8 +9,6 @@ mod pieces;
 mod sents;
 mod sorts;
 mod terms;
-#[cfg(test)]
-mod tests;
 mod words;
 
 pub use event::Event;

@@ -1,22 +1,24 @@
 -- Binders over a body into which a term is put.
-use Rattle.std.proofs.Common.{◌≡◌, ℕ, ◌+◌, ◌<◌, ◌≤◌, ◌&&◌, ◌||◌, Bool, true, false, not, length, refl, sym, ◌∙◌, ap, subst, arith}
+use Rattle.std.proofs.Common.{◌≡◌, ℕ, ◌+◌, ◌<◌, ◌&&◌, Bool, true, false, not, [], length, refl, sym, ◌∙◌, ap, subst, arith}
 use Rattle.ath_sorts.specs.declared.sorts.Sort.{Sort}
 use Rattle.ath_sorts.specs.Signature.{Signature}
 use Rattle.ath_sorts.proofs.Bools.{or_parts}
-use Rattle.ath_trees.specs.declared.limits.TheConstants.{MOST_TERM_NODES, MOST_TERM_LEVELS}
 use Rattle.ath_trees.specs.declared.node.Var.{Var}
 use Rattle.ath_trees.specs.declared.node.Quant.{Quant}
 use Rattle.ath_trees.specs.declared.node.SentId.{SentId}
 use Rattle.ath_trees.specs.Measure.{sent_size, sent_depth, IsSmall}
-use Rattle.ath_trees.specs.Occurrences.{is_among, is_named, every_var}
+use Rattle.ath_trees.specs.Occurrences.{is_among, is_named}
 use Rattle.ath_trees.specs.Renamed.{renamed}
 use Rattle.ath_trees.specs.Substitution.{other, subst_term, subst_sent}
 use Rattle.ath_trees.specs.Tree.{Term, Sent, bound}
 use Rattle.ath_trees.specs.Variables.{same_var, term_vars, free_vars}
-use Rattle.ath_trees.proofs.Occurring.{by_cases}
+use Rattle.ath_trees.specs.Groups.{may_have}
+use Rattle.ath_trees.proofs.Occurring.{by_cases, unnamed}
 use Rattle.ath_trees.proofs.Renaming.{depth-renamed}
 use Rattle.ath_trees.proofs.SubstForms.{subst-shadowed, subst-bare, subst-plain, subst-captured}
 use Rattle.ath_trees.specs.WellSorted.{HasSort}
+use Rattle.ath_terms.specs.declared.marks.Marks.{Marks}
+use Rattle.ath_terms.specs.Marks.{IsTermMarked, IsSentMarked}
 use Rattle.ath_terms.specs.SortsIn.{IsSortedIn}
 use Rattle.ath_terms.specs.Trees.{Trees, term_at, sort_at, sent_at, IsTerm, IsSent}
 use Rattle.ath_subst.specs.Captures.{is_left, binder_for, body_for}
@@ -93,3 +95,18 @@ same-put-sent u r x c by p e w = (w.0, w.1 ∙ ap (λ b. subst_sent x b p) e)
 
 pub fit-has : (sig : Signature) (s : Trees) (by : ℕ) (r : Sort) → IsSortedIn sig s → by < length s.terms → sort_at s.sorts by ≡ r → HasSort sig (term_at s.terms by) r
 fit-has sig s by r h l e = subst (HasSort sig (term_at s.terms by)) e (h.terms by l)
+
+-- ---- what the marks of a tree tell to be absent
+not-set : (b : Bool) → not b ≡ true → b ≡ false
+not-set true e = absurd (cc)
+not-set false e = refl
+
+module _ (s : Trees) (m : Marks) (x : Var) (b : Bool) (is : b ≡ may_have m.groups x) (none : not b ≡ true) where
+  lacking : may_have m.groups x ≡ false
+  lacking = sym is ∙ not-set b none
+
+  pub term-lacks : (t : ℕ) → IsTermMarked s t m → is_among x (term_vars (term_at s.terms t)) ≡ false
+  term-lacks t h = unnamed x (term_vars (term_at s.terms t)) (h.tree.lacks x lacking [])
+
+  pub sent-lacks : (p : ℕ) → IsSentMarked s (sent_at s.sents p) m → is_among x (free_vars (sent_at s.sents p)) ≡ false
+  sent-lacks p h = unnamed x (free_vars (sent_at s.sents p)) (h.lacks x lacking [])

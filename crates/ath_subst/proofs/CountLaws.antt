@@ -1,5 +1,5 @@
 -- The nodes and levels of a tree with a term in place of a variable, part by part.
-use Rattle.std.proofs.Common.{◌≡◌, ℕ, zero, suc, ◌+◌, ◌*◌, ◌<◌, ◌≤◌, max, false, true, List, [], ◌∷◌, length, map, take, get_or, Some, refl, sym, ◌∙◌, ap, subst, arith}
+use Rattle.std.proofs.Common.{◌≡◌, ℕ, ◌+◌, ◌*◌, ◌<◌, ◌≤◌, max, false, true, List, [], ◌∷◌, length, map, take, get_or, Some, refl, sym, ◌∙◌, ap, arith}
 use Rattle.ath_trees.specs.declared.limits.TheConstants.{MOST_TERM_NODES, MOST_TERM_LEVELS}
 use Rattle.ath_trees.specs.declared.node.Binary.{Binary}
 use Rattle.ath_trees.specs.declared.node.Binary.TheVariants as binary
@@ -11,7 +11,7 @@ use Rattle.ath_trees.specs.declared.node.TermId.{TermId}
 use Rattle.ath_trees.specs.declared.node.Var.{Var}
 use Rattle.ath_trees.specs.Measure.{term_size, term_depth, sent_size, sent_depth, IsSmall}
 use Rattle.ath_trees.specs.Substitution.{subst_term, subst_sent}
-use Rattle.ath_trees.specs.Tree.{Term, Sent, atom, equal, bound}
+use Rattle.ath_trees.specs.Tree.{Term, Sent, atom, equal}
 use Rattle.ath_trees.specs.Variables.{same_var}
 use Rattle.ath_trees.proofs.SubstForms.{subst-atom, subst-equal, size-shadowed, depth-shadowed, size-bound, depth-bound, term-few, term-shallow, sent-few, sent-shallow}
 use Rattle.ath_terms.specs.Nodes.{parts_tree, conn_tree, arity}

@@ -1,5 +1,5 @@
 -- What substitution and closing come to.
-use Rattle.std.proofs.Common.{◌≡◌, ℕ, ◌+◌, ◌<◌, ◌≤◌, Bool, true, false, not, List, [], ◌∷◌, ◌++◌, length, take, get_or, refl, sym, ◌∙◌, ap, subst, Ok, Err, arith}
+use Rattle.std.proofs.Common.{◌≡◌, ℕ, ◌+◌, ◌<◌, ◌≤◌, Bool, true, false, not, List, [], ◌∷◌, ◌++◌, length, take, get_or, refl, sym, ◌∙◌, ap, subst, Err, arith}
 use Rattle.std.specs.Prelude.{nat_lt, filter, if◌then◌else◌}
 use Rattle.std.proofs.lemmas.Grind.{common_steps}
 use Rattle.std.proofs.lemmas.List.{take_all}
@@ -7,26 +7,23 @@ use Rattle.ath_sorts.specs.declared.sorts.Sort.{Sort}
 use Rattle.ath_sorts.specs.Signature.{Signature}
 use Rattle.ath_trees.specs.declared.limits.TheConstants.{MOST_TERM_NODES, MOST_TERM_LEVELS}
 use Rattle.ath_trees.specs.declared.node.Quant.{Quant}
-use Rattle.ath_trees.specs.declared.node.SentId.{SentId}
-use Rattle.ath_trees.specs.declared.node.TermId.{TermId}
 use Rattle.ath_trees.specs.declared.node.Var.{Var}
 use Rattle.ath_trees.specs.Closing.{closing, closed_over}
-use Rattle.ath_trees.specs.Measure.{term_size, term_depth, sent_size, sent_depth, IsSmall}
+use Rattle.ath_trees.specs.Measure.{sent_size, sent_depth, IsSmall}
 use Rattle.ath_trees.specs.Substitution.{subst_sent}
-use Rattle.ath_trees.specs.Tree.{Term, Sent, atom, var, bound}
+use Rattle.ath_trees.specs.Tree.{Term, Sent, var, bound}
 use Rattle.ath_trees.specs.Variables.{same_var}
-use Rattle.ath_trees.specs.WellSorted.{is_valid_sort, HasSort, IsWellSorted}
+use Rattle.ath_trees.specs.WellSorted.{HasSort}
 use Rattle.ath_trees.proofs.Occurring.{by_cases}
 use Rattle.ath_trees.proofs.SubstForms.{size-variable, depth-variable}
 use Rattle.ath_trees.proofs.UnderLaws.{sort_in-is}
 use Rattle.ath_terms.specs.Kept.{IsSentKept}
-use Rattle.ath_terms.specs.SortsIn.{IsSortedIn}
-use Rattle.ath_terms.specs.Trees.{Trees, term_at, sort_at, sent_at, Grows, IsTerm, IsTermOf, IsSent}
+use Rattle.ath_terms.specs.Trees.{Trees, term_at, sent_at, Grows, IsTerm, IsSent}
 use Rattle.ath_terms.proofs.VariableLaws.{next}
 use Rattle.ath_subst.specs.declared.counts.Counts.{Counts}
 use Rattle.ath_subst.specs.declared.error.SubstError.{SubstError}
 use Rattle.ath_subst.specs.declared.error.SubstError.TheVariants.{TooLarge, TooDeep, SortTooLarge, Memory}
-use Rattle.ath_subst.specs.Given.{Given, gives, nodes_above, levels_above, sort_above, limited, limited_term, limited_sent, IsWhy, IsTermGiven, IsSentGiven}
+use Rattle.ath_subst.specs.Given.{gives, nodes_above, levels_above, limited, IsWhy}
 use Rattle.ath_subst.specs.Limited.{MatchLimited}
 
 module _ {T : Type 0} (x : T) (n l : ℕ) where

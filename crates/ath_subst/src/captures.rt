@@ -1,6 +1,6 @@
 // Binders over a body into which a term is put: one that would capture a variable of the term is renamed.
 
-ghost use Rattle.std.specs.Prelude.{◌≡◌, ◌<◌, true, length, IfOk};
+ghost use Rattle.std.specs.Prelude.{◌≡◌, ◌<◌, true, false, length, IfOk, IsTrue};
 ghost use Rattle.ath_sorts.specs.Signature.{Signature};
 ghost use Rattle.ath_subst.specs.Captures.{is_left, binder_for, body_for};
 ghost use Rattle.ath_terms.specs.SortsIn.{IsSortedIn};
@@ -16,11 +16,32 @@ use ath_terms::variables::{is_found, is_same_var};
 use ath_trees::{SentId, TermId, Var};
 use std::alloc::{AllocError, Global};
 
+/// Whether it is seen at once that no variable of the term has this name and index.
+pub fn lacks(store: &Store, t: TermId, x: &Var) -> bool
+    requires { t.0 < length store.now.terms }
+    ensures { IsTrue result → is_among x.now (term_vars (term_at store.now.terms t.0)) ≡ false }
+{
+    let marks = store.marks(t);
+    !marks.groups.may_have(x)
+}
+
+/// Whether it is seen at once that no free variable of the sentence has this name and index.
+pub fn sent_lacks(store: &Store, p: SentId, x: &Var) -> bool
+    requires { p.0 < length store.now.sents }
+    ensures { IsTrue result → is_among x.now (free_vars (sent_at store.now.sents p.0)) ≡ false }
+{
+    let marks = store.sent_marks(p);
+    !marks.groups.may_have(x)
+}
+
 /// Whether a variable is free in a sentence.
 pub fn is_free(alloc: Global, store: &Store, x: &Var, p: SentId) -> Result<bool, AllocError>
     requires { p.0 < length store.now.sents }
     ensures { IfOk result (λ b. b ≡ is_among x.now (free_vars (sent_at store.now.sents p.0))) }
 {
+    if sent_lacks(store, p, x) {
+        return Ok(false);
+    }
     let free = store.free_vars(alloc, p)?;
     let found = is_found(free.as_slice(), x);
     Ok(found)
@@ -31,6 +52,9 @@ pub fn has_var(alloc: Global, store: &Store, x: &Var, t: TermId) -> Result<bool,
     requires { t.0 < length store.now.terms }
     ensures { IfOk result (λ b. b ≡ is_among x.now (term_vars (term_at store.now.terms t.0))) }
 {
+    if lacks(store, t, x) {
+        return Ok(false);
+    }
     let vars = store.term_vars(alloc, t)?;
     let found = is_found(vars.as_slice(), x);
     Ok(found)

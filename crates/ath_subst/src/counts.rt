@@ -6,6 +6,7 @@ ghost use Rattle.ath_trees.specs.Measure.{term_size, term_depth, sent_size, sent
 ghost use Rattle.ath_trees.specs.Substitution.{subst_term, subst_sent};
 ghost use Rattle.ath_trees.specs.declared.limits.TheConstants.{MOST_TERM_NODES, MOST_TERM_LEVELS};
 
+use crate::captures::{lacks, sent_lacks};
 use ath_terms::variables::is_same_var;
 use ath_terms::{SentNode, Store, TermNode};
 use ath_trees::{SentId, TermId, Var};
@@ -34,6 +35,9 @@ pub fn term_counts(store: &Store, t: TermId, x: &Var, by: TermId) -> Counts
         nodes: store.size(by),
         levels: store.depth(by),
     };
+    if lacks(store, t, x) {
+        return own;
+    }
     match store.term(t) {
         TermNode::Var(v) => {
             if is_same_var(x, v) {
@@ -75,6 +79,9 @@ pub fn sent_counts(store: &Store, p: SentId, x: &Var, by: TermId) -> Counts
         nodes: store.size(by),
         levels: store.depth(by),
     };
+    if sent_lacks(store, p, x) {
+        return own;
+    }
     match store.sent(p) {
         SentNode::Atom(t) => term_counts(store, *t, x, by),
         SentNode::Eq(s, t) => {

@@ -14,7 +14,5 @@ pub mod replacing;
 pub mod sentences;
 pub mod substitution;
 pub mod terms;
-#[cfg(test)]
-mod tests;
 
 pub use error::SubstError;

@@ -8,6 +8,7 @@ ghost use Rattle.ath_trees.specs.Measure.{IsSmall};
 ghost use Rattle.ath_trees.specs.Substitution.{subst_term};
 ghost use Rattle.ath_trees.specs.Tree.{atom};
 
+use crate::captures::lacks;
 use crate::kept::keep_term;
 use ath_sorts::sorts::copied;
 use ath_terms::plain::{copied_sorts, list_depth, list_size};
@@ -49,6 +50,9 @@ pub fn put_term(
     ensures tree { IfOk result (λ r. IsTerm store.new r.0 (subst_term x.now (term_at store.old.terms by.0) (term_at store.old.terms t.0))) }
     ensures sorted { (sig : Signature) → IsSortedIn sig store.old → sort_at store.old.sorts by.0 ≡ x.now.sort → IsSortedIn sig store.new }
 {
+    if lacks(store, t, x) {
+        return Ok(t);
+    }
     let node = copied_term(alloc, store.term(t))?;
     match node {
         TermNode::Var(v) => {

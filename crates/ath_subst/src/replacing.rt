@@ -8,7 +8,7 @@ ghost use Rattle.ath_trees.specs.Measure.{IsSmall};
 ghost use Rattle.ath_trees.specs.Substitution.{subst_sent};
 ghost use Rattle.ath_trees.specs.Variables.{term_vars};
 
-use crate::captures::{is_left, open_binder};
+use crate::captures::{is_left, open_binder, sent_lacks};
 use crate::kept::keep_small_sent;
 use crate::putting::put_term;
 use ath_terms::plain::copied_node;
@@ -35,6 +35,9 @@ pub fn put_sent(
     ensures tree { IfOk result (λ r. IsSent store.new r.0 (subst_sent x.now (term_at store.old.terms by.0) (sent_at store.old.sents p.0))) }
     ensures sorted { (sig : Signature) → IsSortedIn sig store.old → sort_at store.old.sorts by.0 ≡ x.now.sort → IsSortedIn sig store.new }
 {
+    if sent_lacks(store, p, x) {
+        return Ok(p);
+    }
     let node = copied_node(alloc, store.sent(p))?;
     match node {
         SentNode::Atom(t) => {

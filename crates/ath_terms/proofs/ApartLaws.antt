@@ -1,5 +1,5 @@
 -- Variables no two of which have one name and index.
-use Rattle.std.proofs.Common.{◌≡◌, ℕ, zero, suc, ◌<◌, ◌≤◌, Bool, false, List, [], ◌∷◌, ◌++◌, length, take, get_or, set, Option, None, is_some, cond, Some, refl, sym, ◌∙◌, ap, subst, arith, inl, inr, ◌+◌}
+use Rattle.std.proofs.Common.{◌≡◌, ℕ, zero, suc, ◌<◌, ◌≤◌, false, List, [], ◌∷◌, ◌++◌, length, take, get_or, set, None, is_some, cond, Some, refl, sym, ◌∙◌, ap, subst, arith, inl, inr, ◌+◌}
 use Rattle.std.specs.Prelude.{find}
 use Rattle.std.specs.Map.{lookup}
 use Rattle.std.proofs.lemmas.List.{take_all, map-set, get_or-set_same, get_or-set_other}
@@ -63,7 +63,7 @@ apart-all xs i l h = subst AreApart (take_all i xs l) h
 
 -- ---- a mark in a store
 told : (s : Trees) (p : Sent) (m : Marks) → IsSentMarked s p m → AreApart (free_vars p) → IsSentMarked s p (told_apart m)
-told s p m h a = record { closed = h.closed; apart = λ e. a; small = h.small; fixed = h.fixed }
+told s p m h a = record { closed = h.closed; lacks = h.lacks; apart = λ e. a; small = h.small; fixed = h.fixed }
 
 module _ (es : List KeptTerm) (ms : List KeptSent) (v : Trees) (is : whole_view es ms ≡ v) (w : IsWhole es ms) (h : HasMarks (whole_view es ms) (marks_of es) (sent_marks_of ms)) (k : ℕ) (d y : KeptSent) (node : y.node ≡ (get_or ms k d).node) where
   nodes-same : sent_nodes_of (set ms k y) ≡ sent_nodes_of ms

@@ -1,5 +1,5 @@
 -- A table of the first items of a list.
-use Rattle.std.proofs.Common.{◌≡◌, ℕ, zero, suc, ◌<◌, Bool, true, false, cond, refl, ◌++◌, ◌∷◌, [], List, length, slice_get, Option, Some, None, is_some, sym, ◌∙◌, ap, arith, ◌⊎◌, inl, inr}
+use Rattle.std.proofs.Common.{◌≡◌, ℕ, zero, suc, Bool, true, false, cond, refl, ◌++◌, ◌∷◌, [], List, length, slice_get, Option, Some, None, is_some, sym, ◌∙◌, ap, arith, ◌⊎◌, inl, inr}
 use Rattle.std.specs.Prelude.{find}
 use Rattle.std.specs.Map.{lookup}
 use Rattle.ath_sorts.proofs.Bools.{true-not-false}

@@ -1,5 +1,5 @@
 -- What is marked of trees that are built of parts.
-use Rattle.std.proofs.Common.{◌≡◌, ℕ, zero, suc, ◌+◌, ◌<◌, ◌≤◌, Bool, true, false, ◌&&◌, ◌||◌, List, [], ◌∷◌, ◌++◌, length, map, take, get_or, refl, sym, ◌∙◌, ap, subst, arith, inl, inr}
+use Rattle.std.proofs.Common.{◌≡◌, ℕ, ◌+◌, ◌<◌, ◌≤◌, Bool, true, false, ◌&&◌, List, [], ◌∷◌, ◌++◌, length, map, take, get_or, refl, sym, ◌∙◌, ap, subst, inl, inr}
 use Rattle.std.specs.List.{list_all}
 use Rattle.std.proofs.lemmas.List.{take_all}
 use Rattle.ath_sorts.specs.declared.sorts.Sym.{Sym}
@@ -9,18 +9,21 @@ use Rattle.ath_sorts.specs.Sorts.{is_small, apply_to}
 use Rattle.ath_sorts.specs.Signature.{Signature}
 use Rattle.ath_sorts.proofs.Bools.{and_parts, either_of, true-not-false}
 use Rattle.ath_trees.specs.declared.node.Var.{Var}
-use Rattle.ath_trees.specs.Tree.{Term, Terms, var, app, listed, Sent, atom, equal}
-use Rattle.ath_trees.specs.SortsIn.{sort_in, has_small_sorts, have_small_sorts, sent_has_small_sorts}
+use Rattle.ath_trees.specs.Groups.{only}
+use Rattle.ath_trees.specs.Occurrences.{is_named}
+use Rattle.ath_trees.specs.Tree.{Term, var, app, listed, atom, equal}
+use Rattle.ath_trees.specs.SortsIn.{sort_in, has_small_sorts, have_small_sorts}
 use Rattle.ath_trees.specs.Under.{term_under, terms_under, sent_under}
-use Rattle.ath_trees.specs.Variables.{with_term, with_terms, with_sent}
+use Rattle.ath_trees.specs.Variables.{with_term, with_terms}
 use Rattle.ath_trees.specs.WellSorted.{HasSort}
+use Rattle.ath_trees.proofs.GroupLaws.{both-lack, only-lacks, named-with_var}
 use Rattle.ath_trees.proofs.UnderLaws.{sort_in-is, listed-under}
 use Rattle.ath_terms.specs.declared.marks.Marks.{Marks}
 use Rattle.ath_terms.specs.declared.sort_vars.SortVars.{SortVars}
 use Rattle.ath_terms.specs.SortVars.{both, Fixes}
 use Rattle.ath_terms.specs.SortsIn.{IsSortedIn}
 use Rattle.ath_terms.specs.Trees.{Trees}
-use Rattle.ath_terms.specs.Marks.{AreApart, IsMarked, AreMarked, adds, IsSortFixed, IsNodeMarked, IsSentMarked, all_marks, with_marks, over}
+use Rattle.ath_terms.specs.Marks.{AreApart, IsMarked, AreMarked, adds, IsNodeMarked, IsSentMarked, all_marks, with_marks, over}
 use Rattle.ath_terms.proofs.VariableLaws.{next, map-push}
 use Rattle.ath_terms.proofs.SortVarLaws.{fixes-left, fixes-right}
 
@@ -40,11 +43,12 @@ push-same f xs x h e = map-push f xs x ∙ (λ i. h i ++ e i ∷ [])
 
 module _ {T : Type 0} (add : List Var → T → List Var) (is_tiny : Signature → T → Bool) (under : (SVar → Sort) → T → T) (Fits : Signature → Type 0) where
   pub marked-none : AreMarked add is_tiny under Fits [] all_marks
-  marked-none = record { closed = λ e found. refl; apart = λ e. tt; small = λ e sig h. refl; fixed = λ f h. refl }
+  marked-none = record { closed = λ e found. refl; lacks = λ v e found. refl; apart = λ e. tt; small = λ e sig h. refl; fixed = λ f h. refl }
 
   pub marked-push : (xs : List T) (x : T) (m q : Marks) → AreMarked add is_tiny under Fits xs m → IsMarked add is_tiny under Fits x q → AreMarked add is_tiny under Fits (xs ++ x ∷ []) (with_marks m q)
   marked-push xs x m q h k = record {
     closed = λ e found. let p = and_parts m.is_closed q.is_closed e in adds-push add found xs x ∙ ap (λ (l : List Var). add l x) (h.closed p.0 found) ∙ k.closed p.1 found;
+    lacks = λ v e found. let p = both-lack m.groups q.groups v e in ap (is_named v) (adds-push add found xs x) ∙ k.lacks v p.1 (adds add found xs) ∙ h.lacks v p.0 found;
     apart = λ e. elim (either_of (m.is_apart && q.is_closed) (m.is_closed && q.is_apart) e) [
       | inl a ↦ (let p = and_parts m.is_apart q.is_closed a in subst AreApart (sym (adds-push add [] xs x ∙ k.closed p.1 (adds add [] xs))) (h.apart p.0))
       | inr a ↦ (let p = and_parts m.is_closed q.is_apart a in subst AreApart (sym (adds-push add [] xs x ∙ ap (λ (l : List Var). add l x) (h.closed p.0 []))) (k.apart p.1))
@@ -71,6 +75,7 @@ module _ {T : Type 0} where
   pub marked-where : (add : List Var → T → List Var) (is_tiny : Signature → T → Bool) (under : (SVar → Sort) → T → T) (Fits Holds : Signature → Type 0) (x y : T) (m : Marks) → x ≡ y → ((sig : Signature) → Holds sig → Fits sig) → IsMarked add is_tiny under Fits x m → IsMarked add is_tiny under Holds y m
   marked-where add is_tiny under Fits Holds x y m e w h = subst (λ (z : T). IsMarked add is_tiny under Holds z m) e (record {
     closed = h.closed;
+    lacks = h.lacks;
     apart = h.apart;
     small = λ s sig holds. h.small s sig (w sig holds);
     fixed = h.fixed;
@@ -97,6 +102,7 @@ module _ (s : Trees) where
   app-marked g sorts xs r m a b u w h p q v z = record {
     tree = record {
       closed = λ e found. listed-adds found xs ∙ h.closed e found;
+      lacks = λ v e found. ap (is_named v) (listed-adds found xs) ∙ h.lacks v e found;
       apart = λ e. subst AreApart (sym (listed-adds [] xs)) (h.apart e);
       small = λ e sig fits.
           let x = and_parts m.is_small (a && b) e in
@@ -114,10 +120,11 @@ module _ (s : Trees) where
   }
 
   pub var-marked : (v : Var) (r : Sort) (a : Bool) (u w : SortVars) → a ≡ is_small v.sort → ((f : SVar → Sort) → Fixes u f → apply_to f v.sort ≡ v.sort) → ((f : SVar → Sort) → Fixes w f → apply_to f r ≡ r)
-      → IsNodeMarked s (var v) r (record { is_closed = false; is_apart = true; is_small = a; sorts = both u w })
+      → IsNodeMarked s (var v) r (record { is_closed = false; groups = only v; is_apart = true; is_small = a; sorts = both u w })
   var-marked v r a u w p x y = record {
     tree = record {
       closed = λ e. absurd (true-not-false (sym e));
+      lacks = λ w e found. named-with_var w found v (only-lacks w v e);
       apart = λ e. (refl, tt);
       small = λ e sig fits. sym p ∙ e;
       fixed = λ f e. let q = x f (fixes-left u w f e) in λ i. var (record { name = v.name; index = v.index; sort = q i });
@@ -131,7 +138,7 @@ module _ (s : Trees) where
   Fine sig = IsSortedIn sig s
 
   pub atom-marked : (t : Term) (m : Marks) → IsMarked with_term has_small_sorts term_under Fine t m → IsSentMarked s (atom t) m
-  atom-marked t m h = record { closed = h.closed; apart = h.apart; small = h.small; fixed = λ f e. ap atom (h.fixed f e) }
+  atom-marked t m h = record { closed = h.closed; lacks = h.lacks; apart = h.apart; small = h.small; fixed = λ f e. ap atom (h.fixed f e) }
 
   pub equal-marked : (t u : Term) (m q : Marks) → IsMarked with_term has_small_sorts term_under Fine t m → IsMarked with_term has_small_sorts term_under Fine u q → IsSentMarked s (equal t u) (with_marks (with_marks all_marks m) q)
   equal-marked t u m q h k =
@@ -139,6 +146,7 @@ module _ (s : Trees) where
       let two = marked-push with_term has_small_sorts term_under Fine (t ∷ []) u (with_marks all_marks m) q one k in
       record {
         closed = two.closed;
+        lacks = two.lacks;
         apart = two.apart;
         small = λ e sig fits. and-ends (has_small_sorts sig t) (has_small_sorts sig u) (two.small e sig fits);
         fixed = λ f e. both-same f t u (two.fixed f e);

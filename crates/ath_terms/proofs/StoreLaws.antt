@@ -7,7 +7,7 @@ use Rattle.ath_terms.specs.declared.store.KeptSent.{KeptSent}
 use Rattle.ath_terms.specs.declared.marks.Marks.{Marks}
 use Rattle.ath_trees.specs.declared.limits.TheConstants.{MOST_TERM_NODES, MOST_TERM_LEVELS}
 use Rattle.ath_terms.specs.Whole.{nodes_of, sorts_of, extents_of, sent_nodes_of, sent_extents_of, whole_view, IsWell, IsWhole}
-use Rattle.ath_terms.specs.Kept.{Extent, IsTermKept, IsSentKept, AreEach, AreKept}
+use Rattle.ath_terms.specs.Kept.{Extent, IsTermKept, IsSentKept, AreEach}
 use Rattle.ath_terms.specs.declared.node.TermNode.{TermNode}
 use Rattle.ath_terms.specs.declared.node.SentNode.{SentNode}
 use Rattle.ath_terms.specs.declared.node.SentNode.TheVariants as node

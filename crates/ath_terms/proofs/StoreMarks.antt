@@ -1,5 +1,5 @@
 -- What is marked in a store, one node later.
-use Rattle.std.proofs.Common.{◌≡◌, ℕ, ◌+◌, ◌<◌, ◌≤◌, Bool, true, false, ◌&&◌, not, List, [], ◌∷◌, ◌++◌, length, map, get_or, refl, sym, ◌∙◌, ap, subst, arith, length-append, ◌⊎◌, inl, inr}
+use Rattle.std.proofs.Common.{◌≡◌, ℕ, ◌+◌, ◌<◌, Bool, true, ◌&&◌, not, List, [], ◌∷◌, ◌++◌, length, map, get_or, refl, sym, ◌∙◌, ap, subst, arith, length-append, ◌⊎◌, inl, inr}
 use Rattle.std.specs.Prelude.{filter}
 use Rattle.std.specs.List.{list_all}
 use Rattle.std.proofs.lemmas.Grind.{common_steps}
@@ -13,7 +13,7 @@ use Rattle.ath_trees.specs.declared.node.Quant.{Quant}
 use Rattle.ath_trees.specs.declared.node.SentId.{SentId}
 use Rattle.ath_trees.specs.declared.node.Var.{Var}
 use Rattle.ath_trees.specs.declared.node.TermId.{TermId}
-use Rattle.ath_trees.specs.Tree.{Term, app, listed, Sent, bound}
+use Rattle.ath_trees.specs.Tree.{Term, app, listed, Sent, equal, bound}
 use Rattle.ath_sorts.specs.declared.sorts.Sym.{Sym}
 use Rattle.ath_terms.specs.declared.node.TermNode.{TermNode}
 use Rattle.ath_terms.specs.declared.node.TermNode.TheVariants as node_term
@@ -22,13 +22,15 @@ use Rattle.ath_terms.specs.declared.node.SentNode.TheVariants as node
 use Rattle.ath_terms.specs.declared.store.KeptTerm.{KeptTerm}
 use Rattle.ath_terms.specs.declared.store.KeptSent.{KeptSent}
 use Rattle.ath_terms.specs.Whole.{whole_view, IsWhole}
+use Rattle.ath_trees.specs.Occurrences.{is_named}
+use Rattle.ath_trees.proofs.GroupLaws.{named-with_vars, named-filter}
 use Rattle.ath_trees.specs.SortsIn.{has_small_sorts, sent_has_small_sorts}
 use Rattle.ath_trees.specs.Under.{term_under, sent_under}
 use Rattle.ath_trees.specs.Variables.{same_var, with_vars, with_term, with_sent, with_sents}
 use Rattle.ath_trees.specs.WellSorted.{HasSort, IsWellSorted}
 use Rattle.ath_terms.specs.declared.marks.Marks.{Marks}
 use Rattle.ath_terms.specs.declared.sort_vars.SortVars.{SortVars}
-use Rattle.ath_terms.specs.Marks.{AreApart, IsMarked, AreMarked, AreTermsMarked, AreSentsMarked, adds, IsSortFixed, IsVarMarked, IsNodeMarked, IsTermMarked, IsSentMarked, HasMarks, no_marks, over}
+use Rattle.ath_terms.specs.Marks.{AreApart, AreMarked, AreTermsMarked, AreSentsMarked, adds, IsSortFixed, IsVarMarked, IsNodeMarked, IsTermMarked, IsSentMarked, HasMarks, all_marks, no_marks, with_marks, over}
 use Rattle.ath_terms.specs.Nodes.{conn_tree, arity, term_tree, sent_tree, IsSentBelow}
 use Rattle.ath_terms.specs.SortVars.{both, Fixes}
 use Rattle.ath_terms.specs.SortsIn.{IsSortedIn}
@@ -36,7 +38,7 @@ use Rattle.ath_terms.specs.Trees.{Trees, term_at, sort_at, sent_at, Grows}
 use Rattle.ath_terms.proofs.BuiltLaws.{get_or-append-left, get_or-append-here}
 use Rattle.ath_terms.proofs.ConnParts.{under_of_list, vars_of_list, small_of_list}
 use Rattle.ath_terms.proofs.Grow.{grows-terms, grows-sents, new-term, new-sent}
-use Rattle.ath_terms.proofs.MarkLaws.{marked-where, app-marked}
+use Rattle.ath_terms.proofs.MarkLaws.{marked-where, app-marked, equal-marked}
 use Rattle.ath_terms.proofs.StoreLaws.{map-push, map-count, map-get, terms-count, sorts-count, sents-count, then-add_term, then-add_sent}
 use Rattle.ath_terms.proofs.SortVarLaws.{fixes-left, fixes-right}
 
@@ -59,6 +61,7 @@ module _ (s : Trees) where
       let k : length ps ≡ arity c = length-of (λ (i : SentId). sent_at s.sents i.0) ids ∙ l in
       record {
         closed = λ e found. vars_of_list found c ps k ∙ sents-adds found ps ∙ h.closed e found;
+        lacks = λ v e found. ap (is_named v) (vars_of_list found c ps k ∙ sents-adds found ps) ∙ h.lacks v e found;
         apart = λ e. subst AreApart (sym (vars_of_list [] c ps k ∙ sents-adds [] ps)) (h.apart e);
         small = λ e sig fits. small_of_list sig c ps k ∙ h.small e sig fits;
         fixed = λ f e. under_of_list f c ps k ∙ ap (conn_tree c) (h.fixed f e);
@@ -67,9 +70,10 @@ module _ (s : Trees) where
   and-more : (a b : Bool) → a ≡ true → b ≡ true → (a && b) ≡ true
   and-more a b p q = rw (p, q) refl
 
-  pub bound-marked : (q : Quant) (v : Var) (p : Sent) (m : Marks) (a : Bool) (u : SortVars) → IsSentMarked s p m → a ≡ is_small v.sort → ((f : SVar → Sort) → Fixes u f → apply_to f v.sort ≡ v.sort) → IsSentMarked s (bound q v p) (record { is_closed = m.is_closed; is_apart = m.is_closed; is_small = m.is_small && a; sorts = both m.sorts u })
+  pub bound-marked : (q : Quant) (v : Var) (p : Sent) (m : Marks) (a : Bool) (u : SortVars) → IsSentMarked s p m → a ≡ is_small v.sort → ((f : SVar → Sort) → Fixes u f → apply_to f v.sort ≡ v.sort) → IsSentMarked s (bound q v p) (record { is_closed = m.is_closed; groups = m.groups; is_apart = m.is_closed; is_small = m.is_small && a; sorts = both m.sorts u })
   bound-marked q v p m a u h e x = record {
     closed = λ c found. ap (λ (vs : List Var). with_vars found (filter (λ w. not (same_var v w)) vs)) (h.closed c []);
+    lacks = λ w c found. named-with_vars w found (filter (λ u. not (same_var v u)) (with_sent [] p)) (named-filter w (λ u. not (same_var v u)) (with_sent [] p) (h.lacks w c []));
     apart = λ c. subst (λ (vs : List Var). AreApart (with_vars [] (filter (λ w. not (same_var v w)) vs))) (sym (h.closed c [])) tt;
     small = λ c sig fits. let y = and_parts m.is_small a c in and-more (is_small v.sort) (sent_has_small_sorts sig p) (sym e ∙ y.1) (h.small y.0 sig fits);
     fixed = λ f c. let y = x f (fixes-right m.sorts u f c) in let z = h.fixed f (fixes-left m.sorts u f c) in λ i. bound q (record { name = v.name; index = v.index; sort = y i }) (z i);
@@ -190,13 +194,19 @@ module _ (s : Trees) where
       (subst (λ (z : List TermId). IsNodeMarked s (app g these (listed (map (λ j. term_at s.terms j.0) z))) r (over m (is_small r && list_all is_small these) (both u w))) same
       (app-marked s g these (map (λ j. term_at s.terms j.0) xs) r m (is_small r) (list_all is_small these) u w h refl refl x y))))
 
+  pub equal-node : (n : SentNode) (x y : TermId) (a m q w b : Marks) → n ≡ node.Eq x y → a ≡ all_marks → IsTermMarked s x.0 m → IsTermMarked s y.0 q → w ≡ with_marks a m → b ≡ with_marks w q → IsSentMarked s (sent_tree s.terms s.sents n) b
+  equal-node n x y a m q w b is none h k e g =
+      subst (λ (z : SentNode). IsSentMarked s (sent_tree s.terms s.sents z) b) (sym is)
+      (subst (IsSentMarked s (equal (term_at s.terms x.0) (term_at s.terms y.0))) (sym (g ∙ ap (λ (z : Marks). with_marks z q) (e ∙ ap (λ (z : Marks). with_marks z m) none)))
+      (equal-marked s (term_at s.terms x.0) (term_at s.terms y.0) m q h.tree k.tree))
+
   pub conn-node : (n : SentNode) (c : Conn) (ids xs : List SentId) (a k : ℕ) (m : Marks) → n ≡ node.Conn c ids → xs ≡ ids → IsSentBelow a k n → AreSentsMarked s xs m → IsSentMarked s (sent_tree s.terms s.sents n) m
   conn-node n c ids xs a k m is same below h =
       let b = subst (IsSentBelow a k) is below in
       subst (λ (z : SentNode). IsSentMarked s (sent_tree s.terms s.sents z) m) (sym is)
       (conn-marked s c ids m b.0 (subst (λ (z : List SentId). AreSentsMarked s z m) same h))
 
-  pub bound-node : (n : SentNode) (q : Quant) (v : Var) (p : SentId) (m b : Marks) (a : Bool) (u : SortVars) → n ≡ node.Quant q v p → IsSentMarked s (sent_at s.sents p.0) m → a ≡ is_small v.sort → ((f : SVar → Sort) → Fixes u f → apply_to f v.sort ≡ v.sort) → b ≡ record { is_closed = m.is_closed; is_apart = m.is_closed; is_small = m.is_small && a; sorts = both m.sorts u } → IsSentMarked s (sent_tree s.terms s.sents n) b
+  pub bound-node : (n : SentNode) (q : Quant) (v : Var) (p : SentId) (m b : Marks) (a : Bool) (u : SortVars) → n ≡ node.Quant q v p → IsSentMarked s (sent_at s.sents p.0) m → a ≡ is_small v.sort → ((f : SVar → Sort) → Fixes u f → apply_to f v.sort ≡ v.sort) → b ≡ record { is_closed = m.is_closed; groups = m.groups; is_apart = m.is_closed; is_small = m.is_small && a; sorts = both m.sorts u } → IsSentMarked s (sent_tree s.terms s.sents n) b
   bound-node n q v p m b a u is h e x g =
       subst (λ (z : SentNode). IsSentMarked s (sent_tree s.terms s.sents z) b) (sym is)
       (subst (IsSentMarked s (bound q v (sent_at s.sents p.0))) (sym g) (bound-marked s q v (sent_at s.sents p.0) m a u h e x))

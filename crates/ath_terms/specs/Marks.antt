@@ -1,5 +1,5 @@
 -- What a store keeps with a tree beside its nodes and levels, so that a walk through the tree can be saved.
-use Rattle.std.specs.Prelude.{◌≡◌, ℕ, ◌<◌, Bool, true, false, ◌&&◌, ◌||◌, List, [], ◌∷◌, ◌++◌, length, map, find, slice_index_or, Option, None}
+use Rattle.std.specs.Prelude.{◌≡◌, ℕ, ◌<◌, Bool, true, false, ◌&&◌, ◌||◌, List, [], ◌∷◌, ◌++◌, length, map, find, slice_index_or, None}
 use Rattle.std.specs.List.{list_all}
 use Rattle.ath_sorts.specs.declared.sorts.SVar.{SVar}
 use Rattle.ath_sorts.specs.declared.sorts.Sort.{Sort}
@@ -8,6 +8,8 @@ use Rattle.ath_sorts.specs.Signature.{Signature}
 use Rattle.ath_trees.specs.declared.node.Var.{Var}
 use Rattle.ath_trees.specs.declared.node.TermId.{TermId}
 use Rattle.ath_trees.specs.declared.node.SentId.{SentId}
+use Rattle.ath_trees.specs.Groups as groups
+use Rattle.ath_trees.specs.Occurrences.{is_named}
 use Rattle.ath_trees.specs.Tree.{Term, var, Sent}
 use Rattle.ath_trees.specs.SortsIn.{has_small_sorts, sent_has_small_sorts}
 use Rattle.ath_trees.specs.Under.{term_under, sent_under}
@@ -31,6 +33,7 @@ AreApart vs = AreApartFrom [] vs
 -- substitution. The last two are said of a signature that fits.
 pub record IsMarked {T : Type 0} (add : List Var → T → List Var) (is_tiny : Signature → T → Bool) (under : (SVar → Sort) → T → T) (Fits : Signature → Type 0) (x : T) (m : Marks) : Type 0 where
   pub closed : m.is_closed ≡ true → (found : List Var) → add found x ≡ found
+  pub lacks : (v : Var) → groups.may_have m.groups v ≡ false → (found : List Var) → is_named v (add found x) ≡ is_named v found
   pub apart : m.is_apart ≡ true → AreApart (add [] x)
   pub small : m.is_small ≡ true → (sig : Signature) → Fits sig → is_tiny sig x ≡ true
   pub fixed : (f : SVar → Sort) → Fixes m.sorts f → under f x ≡ x
@@ -72,25 +75,26 @@ abbrev pub no_vars : SortVars
 no_vars = record { most_made = None; may_be_written = false }
 
 abbrev pub all_marks : Marks
-all_marks = record { is_closed = true; is_apart = true; is_small = true; sorts = no_vars }
+all_marks = record { is_closed = true; groups = groups.no_groups; is_apart = true; is_small = true; sorts = no_vars }
 
 abbrev pub with_marks : Marks → Marks → Marks
 with_marks m q = record {
   is_closed = m.is_closed && q.is_closed;
+  groups = groups.both m.groups q.groups;
   is_apart = (m.is_apart && q.is_closed) || (m.is_closed && q.is_apart);
   is_small = m.is_small && q.is_small;
   sorts = both m.sorts q.sorts;
 }
 
 abbrev pub over : Marks → Bool → SortVars → Marks
-over m small vars = record { is_closed = m.is_closed; is_apart = m.is_apart; is_small = m.is_small && small; sorts = both m.sorts vars }
+over m small vars = record { is_closed = m.is_closed; groups = m.groups; is_apart = m.is_apart; is_small = m.is_small && small; sorts = both m.sorts vars }
 
 abbrev pub told_apart : Marks → Marks
-told_apart m = record { is_closed = m.is_closed; is_apart = true; is_small = m.is_small; sorts = m.sorts }
+told_apart m = record { is_closed = m.is_closed; groups = m.groups; is_apart = true; is_small = m.is_small; sorts = m.sorts }
 
 -- ---- a store
 abbrev pub no_marks : Marks
-no_marks = record { is_closed = false; is_apart = false; is_small = false; sorts = no_vars }
+no_marks = record { is_closed = false; groups = groups.no_groups; is_apart = false; is_small = false; sorts = no_vars }
 
 pub record HasMarks (s : Trees) (ms ns : List Marks) : Type 0 where
   pub terms : (k : ℕ) → k < length s.terms → IsTermMarked s k (slice_index_or ms k no_marks)

@@ -14,8 +14,6 @@ pub mod node;
 pub mod plain;
 pub mod sort_vars;
 pub mod store;
-#[cfg(test)]
-mod tests;
 pub mod variables;
 
 pub use found::FoundVars;

@@ -9,13 +9,15 @@ ghost use Rattle.ath_terms.specs.declared.sort_vars.SortVars.{SortVars};
 use crate::sort_vars::{SortVars, sort_vars};
 use ath_sorts::Sort;
 use ath_sorts::limits::is_within_limits;
-use ath_trees::Var;
+use ath_trees::{NameGroups, Var};
 
 /// What is known of a tree. What isn't marked may hold all the same.
 #[derive(Clone, Copy)]
 pub struct Marks {
     /// No variable is free in it.
     pub is_closed: bool,
+    /// Its free variables have names of these groups.
+    pub groups: NameGroups,
     /// No two of its free variables have one name and index.
     pub is_apart: bool,
     /// Its sorts are within the limits, in a signature in which the store is sorted.
@@ -31,6 +33,7 @@ impl Marks {
     {
         Marks {
             is_closed: true,
+            groups: NameGroups::none(),
             is_apart: true,
             is_small: true,
             sorts: SortVars::none(),
@@ -43,6 +46,7 @@ impl Marks {
     {
         Marks {
             is_closed: self.is_closed && part.is_closed,
+            groups: self.groups.and(part.groups),
             is_apart: (self.is_apart && part.is_closed) || (self.is_closed && part.is_apart),
             is_small: self.is_small && part.is_small,
             sorts: self.sorts.and(part.sorts),
@@ -55,6 +59,7 @@ impl Marks {
     {
         Marks {
             is_closed: self.is_closed,
+            groups: self.groups,
             is_apart: self.is_apart,
             is_small: self.is_small && small,
             sorts: self.sorts.and(sorts),
@@ -67,6 +72,7 @@ impl Marks {
     {
         Marks {
             is_closed: self.is_closed,
+            groups: self.groups,
             is_apart: true,
             is_small: self.is_small,
             sorts: self.sorts,
@@ -75,10 +81,11 @@ impl Marks {
 
     /// The same for a quantifier, where its body has no free variable.
     pub fn bound(self, small: bool, sorts: SortVars) -> Marks
-        ensures { result ≡ record { is_closed = self.is_closed; is_apart = self.is_closed; is_small = (over self small sorts).is_small; sorts = (over self small sorts).sorts } }
+        ensures { result ≡ record { is_closed = self.is_closed; groups = self.groups; is_apart = self.is_closed; is_small = (over self small sorts).is_small; sorts = (over self small sorts).sorts } }
     {
         Marks {
             is_closed: self.is_closed,
+            groups: self.groups,
             is_apart: self.is_closed,
             is_small: self.is_small && small,
             sorts: self.sorts.and(sorts),
@@ -110,6 +117,7 @@ pub fn var_marks(v: &Var, sort: &Sort) -> Marks
 {
     Marks {
         is_closed: false,
+        groups: NameGroups::only(v),
         is_apart: true,
         is_small: is_within_limits(&v.sort),
         sorts: sort_vars(&v.sort).and(sort_vars(sort)),

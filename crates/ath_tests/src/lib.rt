@@ -5,10 +5,22 @@
 #[cfg(test)]
 mod alpha;
 #[cfg(test)]
+mod base;
+#[cfg(test)]
+mod construction;
+#[cfg(test)]
 mod declarations;
 #[cfg(test)]
 mod examples;
 #[cfg(test)]
+mod lines;
+#[cfg(test)]
 mod quantifiers;
 #[cfg(test)]
 mod reports;
+#[cfg(test)]
+mod subst;
+#[cfg(test)]
+mod terms;
+#[cfg(test)]
+mod values;

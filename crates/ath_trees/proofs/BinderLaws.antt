@@ -1,11 +1,11 @@
 -- A quantified sentence at other sorts, and what stays as it is.
-use Rattle.std.proofs.Common.{◌≡◌, ℕ, zero, suc, ◌+◌, ◌≤◌, ◌&&◌, ◌||◌, true, false, not, List, [], ◌∷◌, map, refl, sym, ◌∙◌, ap, arith, inl, inr}
+use Rattle.std.proofs.Common.{◌≡◌, ℕ, zero, suc, ◌≤◌, ◌&&◌, true, false, List, [], ◌∷◌, map, refl, sym, ◌∙◌, ap, arith, inl, inr}
 use Rattle.std.specs.List.{list_all}
 use Rattle.ath_sorts.specs.declared.sorts.SVar.{SVar}
 use Rattle.ath_sorts.specs.declared.sorts.Sort.{Sort}
 use Rattle.ath_sorts.specs.Sorts.{is_small, apply_to}
 use Rattle.ath_sorts.specs.Signature.{Signature, symbol_of}
-use Rattle.ath_sorts.proofs.Bools.{or_parts, either_of}
+use Rattle.ath_sorts.proofs.Bools.{either_of}
 use Rattle.ath_trees.specs.declared.node.Quant.{Quant}
 use Rattle.ath_trees.specs.declared.node.Var.{Var}
 use Rattle.ath_trees.specs.Tree.{Term, Terms, var, app, none, more, Sent, atom, equal, negated, joined, bound}

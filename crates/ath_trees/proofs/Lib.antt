@@ -3,6 +3,7 @@ pub mod ValidSorts
 pub mod Growth
 pub mod UnderLaws
 pub mod Occurring
+pub mod GroupLaws
 pub mod Renaming
 pub mod SubstLaws
 pub mod SubstForms

@@ -7,6 +7,7 @@ pub mod WellSorted
 pub mod SortsIn
 pub mod Variables
 pub mod Under
+pub mod Groups
 pub mod Occurrences
 pub mod Nameless
 pub mod Substitution

@@ -2,6 +2,7 @@ use Rattle.std.proofs.Common.{◌+◌, max, refl, sym, ◌∙◌, ap, arith}
 use Rattle.ath_terms.specs.Trees.{term_at, sent_at}
 use Rattle.ath_trees.specs.Measure.{sent_size, sent_depth}
 use Rattle.ath_trees.specs.Substitution.{subst_sent}
+use Rattle.ath_trees.proofs.SubstForms.{subst-absent}
 use Rattle.ath_subst.proofs.CountLaws.{nodes-next, nodes-fit, nodes-end, levels-next, levels-end, few_sent_nodes, few_sent_levels, put_conn-size, put_conn-depth, put_atom, put_equal, own-size, own-depth, inner-size, inner-depth}
 use Rattle.ath_subst.proofs.SentLaws.{conn_node, bound_node, atom_node, equation_node}
 use Rattle.ath_subst.proofs.counts.+sent_counts.Goals as goal
@@ -64,3 +65,9 @@ returns-else-is_same_var-clause-few t c = few_sent_nodes c.args.x.now (term_at c
 
 pub returns-else-is_same_var-clause-shallow : goal.returns-else-is_same_var-clause-shallow
 returns-else-is_same_var-clause-shallow t c = few_sent_levels c.args.x.now (term_at c.args.store.now.terms c.args.by.0) (sent_at c.args.store.now.sents c.args.p.0) _ _ _ c.sent_depth.ensures.same c.sent_depth.ensures.few c.depth.ensures.same c.depth.ensures.few (inner-depth c.args.x.now (term_at c.args.store.now.terms c.args.by.0) c.args.store.now c.args.p.0 c.in-Quant.field-0 c.in-Quant.v c.in-Quant.body (bound_node c.args.store.now c.sent.result.now c.sent.result.now c.args.p.0 _ refl c.sent.ensures.tree c.sent.ensures.below c.in-Quant.field-0 c.in-Quant.v c.in-Quant.body c.in-Quant.is) c.sent_counts-inner.result.levels (sym c.is_same_var.ensures ∙ c.if-is_same_var.false) c.sent_counts-inner.ensures.levels)
+
+pub returns-then-sent_lacks-clause-nodes : goal.returns-then-sent_lacks-clause-nodes
+returns-then-sent_lacks-clause-nodes t c = c.sent_size.ensures.same ∙ ap sent_size (sym (subst-absent c.args.x.now (term_at c.args.store.now.terms c.args.by.0) (sent_at c.args.store.now.sents c.args.p.0) (c.sent_lacks.ensures c.if-sent_lacks.true)))
+
+pub returns-then-sent_lacks-clause-levels : goal.returns-then-sent_lacks-clause-levels
+returns-then-sent_lacks-clause-levels t c = c.sent_depth.ensures.same ∙ ap sent_depth (sym (subst-absent c.args.x.now (term_at c.args.store.now.terms c.args.by.0) (sent_at c.args.store.now.sents c.args.p.0) (c.sent_lacks.ensures c.if-sent_lacks.true)))

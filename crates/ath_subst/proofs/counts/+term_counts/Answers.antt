@@ -1,6 +1,7 @@
-use Rattle.std.proofs.Common.{refl, ◌∙◌, arith}
+use Rattle.std.proofs.Common.{refl, sym, ◌∙◌, ap, arith}
 use Rattle.ath_terms.specs.Trees.{term_at}
 use Rattle.ath_trees.specs.Measure.{term_size, term_depth}
+use Rattle.ath_trees.proofs.Renaming.{term-absent}
 use Rattle.ath_subst.proofs.CountLaws.{nodes-next, nodes-fit, nodes-end, levels-next, levels-end, few_nodes, few_levels}
 use Rattle.ath_subst.proofs.PuttingLaws.{img, size-is, depth-is}
 use Rattle.ath_subst.proofs.counts.+term_counts.Goals as goal
@@ -34,3 +35,9 @@ returns-after-loop-i-clause-few t c = few_nodes c.args.x.now (term_at c.args.sto
 
 pub returns-after-loop-i-clause-shallow : goal.returns-after-loop-i-clause-shallow
 returns-after-loop-i-clause-shallow t c = few_levels c.args.x.now (term_at c.args.store.now.terms c.args.by.0) (term_at c.args.store.now.terms c.args.t.0) _ _ _ c.depth.ensures.same c.depth.ensures.few c.depth-2.ensures.same c.depth-2.ensures.few (levels-end (λ j. term_depth (img c.args.store.now c.args.x.now c.args.by.0 j)) c.as_slice-parts.result.now c.loop-i.i c.loop-i.levels _ (omega arith) c.loop-i.invariant.levels (depth-is c.args.store.now c.args.x.now c.args.by.0 c.args.t.0 c.term.result.now c.term.result.now refl c.term.ensures.tree c.term.ensures.below c.in-App.field-0 c.in-App.field-1 c.in-App.args c.as_slice-parts.result.now c.in-App.is c.as_slice-parts.ensures c.requires.inside c.requires.there))
+
+pub returns-then-lacks-clause-nodes : goal.returns-then-lacks-clause-nodes
+returns-then-lacks-clause-nodes t c = c.size.ensures.same ∙ ap term_size (sym (term-absent c.args.x.now (term_at c.args.store.now.terms c.args.by.0) (term_at c.args.store.now.terms c.args.t.0) (c.lacks.ensures c.if-lacks.true)))
+
+pub returns-then-lacks-clause-levels : goal.returns-then-lacks-clause-levels
+returns-then-lacks-clause-levels t c = c.depth.ensures.same ∙ ap term_depth (sym (term-absent c.args.x.now (term_at c.args.store.now.terms c.args.by.0) (term_at c.args.store.now.terms c.args.t.0) (c.lacks.ensures c.if-lacks.true)))

@@ -1,9 +1,10 @@
-use Rattle.std.proofs.Common.{◌+◌, List, map, ◌∙◌, ap, arith}
+use Rattle.std.proofs.Common.{◌+◌, List, map, sym, ◌∙◌, ap, arith}
 use Rattle.ath_trees.specs.Measure.{terms_size, terms_depth}
 use Rattle.ath_trees.specs.Tree.{listed}
 use Rattle.ath_trees.specs.declared.node.TermId.{TermId}
 use Rattle.ath_terms.specs.Trees.{term_at}
 use Rattle.ath_terms.proofs.Grow.{grows-then}
+use Rattle.ath_trees.proofs.Renaming.{term-absent}
 use Rattle.ath_subst.proofs.StepLaws.{terms-below}
 use Rattle.ath_subst.proofs.PuttingLaws.{part-below, part-small, parts-few, put-kept, put-step, put-tree, put-has}
 use Rattle.ath_subst.proofs.putting.+put_term.Goals as goal
@@ -60,3 +61,6 @@ returns-in_ok-term-in-App-clause-sorted t c = λ sig h fits. c.in_ok-term-in-App
     (put-tree c.args.store.now c.args.x.now c.args.by.0 c.args.t.0 c.term.result.now c.in_ok-node.node c.in_ok-node.ensures c.term.ensures.tree c.term.ensures.below c.in-App.f c.in-App.sorts c.in-App.args c.as_slice-ids.result.now c.in-App.is c.as_slice-ids.ensures c.requires.inside c.requires.there
     c.loop-i.store c.loop-i.parts c.loop-i.i (omega arith) c.loop-i.invariant.parts)
     (c.in_ok-sort-in-App.ensures ∙ c.sort_of.ensures ∙ c.loop-i.invariant.grows.same_sorts c.args.t.0 c.requires.inside))
+
+pub returns-then-lacks-clause-tree : goal.returns-then-lacks-clause-tree
+returns-then-lacks-clause-tree t c = (c.requires.inside, sym (term-absent c.args.x.now (term_at c.args.store.now.terms c.args.by.0) (term_at c.args.store.now.terms c.args.t.0) (c.lacks.ensures c.if-lacks.true)))

@@ -4,6 +4,7 @@ use Rattle.ath_terms.proofs.Grow.{grows-then}
 use Rattle.ath_trees.specs.Substitution.{subst_term, subst_sent}
 use Rattle.ath_trees.specs.Variables.{term_vars}
 use Rattle.ath_trees.proofs.Sorting.{subst-sorted}
+use Rattle.ath_trees.proofs.SubstForms.{subst-absent}
 use Rattle.ath_subst.proofs.BinderLaws.{bound-valid}
 use Rattle.ath_subst.proofs.CaptureLaws.{left-tree, open-falls, open-small, open-tree, small-as, same-put, same-put-sent, fit-has}
 use Rattle.ath_subst.proofs.CountLaws.{put_atom, put_part-small}
@@ -99,3 +100,6 @@ pub returns-in_ok-sent-in-Quant-clause-sorted : goal.returns-in_ok-sent-in-Quant
 returns-in_ok-sent-in-Quant-clause-sorted t c = λ sig h fits. c.in_ok-sent-in-Quant.ensures.sorted sig (c.in_ok-inner-in-Quant.ensures.sorted sig (c.in_ok-binder-in-Quant.ensures.sorted sig h (bound-valid sig c.args.store.now c.args.p.0 c.in-Quant.k c.in-Quant.v c.in-Quant.body (bound_node c.args.store.now c.sent.result.now c.in_ok-node.node c.args.p.0 _ c.in_ok-node.ensures c.sent.ensures.tree c.sent.ensures.below c.in-Quant.k c.in-Quant.v c.in-Quant.body c.in-Quant.is) (h.sents c.args.p.0 c.requires.inside))) (c.in_ok-binder-in-Quant.ensures.grows.same_sorts c.args.by.0 c.requires.there ∙ fits))
     (sorted-by sig _ _ (open-tree c.args.x.now (term_at c.args.store.now.terms c.args.by.0) c.args.store.now c.args.p.0 c.in-Quant.k c.in-Quant.v c.in-Quant.body (bound_node c.args.store.now c.sent.result.now c.in_ok-node.node c.args.p.0 _ c.in_ok-node.ensures c.sent.ensures.tree c.sent.ensures.below c.in-Quant.k c.in-Quant.v c.in-Quant.body c.in-Quant.is) c.open_binder.new.store c.put_sent-in-Quant.new.store c.in_ok-binder-in-Quant.binder.variable c.in_ok-binder-in-Quant.binder.body.0 c.in_ok-inner-in-Quant.inner.0 _ (sym c.in_ok-left-in-Quant.ensures ∙ c.if-left.false) c.in_ok-binder-in-Quant.ensures.variable c.in_ok-binder-in-Quant.ensures.body (c.in_ok-binder-in-Quant.ensures.grows.same_terms c.args.by.0 c.requires.there) c.in_ok-inner-in-Quant.ensures.tree)
     (subst-sorted sig c.args.x.now (term_at c.args.store.now.terms c.args.by.0) (sent_at c.args.store.now.sents c.args.p.0) (fit-has sig c.args.store.now c.args.by.0 _ h c.requires.there fits) (h.sents c.args.p.0 c.requires.inside)))
+
+pub returns-then-sent_lacks-clause-tree : goal.returns-then-sent_lacks-clause-tree
+returns-then-sent_lacks-clause-tree t c = (c.requires.inside, sym (subst-absent c.args.x.now (term_at c.args.store.now.terms c.args.by.0) (sent_at c.args.store.now.sents c.args.p.0) (c.sent_lacks.ensures c.if-sent_lacks.true)))

@@ -1,6 +1,5 @@
-use Rattle.std.proofs.Common.{◌≡◌, ◌∙◌, List, None, Some, ap, sym, subst}
+use Rattle.std.proofs.Common.{◌∙◌, ap, sym}
 use Rattle.std.specs.Prelude.{find}
-use Rattle.ath_trees.specs.declared.node.Var.{Var}
 use Rattle.ath_terms.specs.Found.{var_key, same_var_key}
 use Rattle.ath_terms.specs.declared.key.VarKey.{VarKey}
 use Rattle.ath_terms.proofs.KeyLaws.{no-key-no-var, key-is-var}

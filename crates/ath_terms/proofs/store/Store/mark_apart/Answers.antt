@@ -1,4 +1,4 @@
-use Rattle.std.proofs.Common.{◌≡◌, ◌<◌, ◌∙◌, ap, length, sym, arith}
+use Rattle.std.proofs.Common.{◌<◌, ◌∙◌, ap, length, arith}
 use Rattle.ath_terms.specs.declared.store.KeptSent.{KeptSent}
 use Rattle.ath_terms.specs.Marks.{told_apart}
 use Rattle.ath_terms.proofs.ApartLaws.{marked-view, marked-whole, marked-marks, same-read}

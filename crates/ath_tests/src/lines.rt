@@ -3,9 +3,9 @@ ghost use Rattle.ath_terms.specs.SortsIn.{IsSortedIn};
 ghost use Rattle.ath_terms.specs.Trees.{Trees, Grows};
 ghost use Rattle.ath_print.specs.Stands.{IsEventIn};
 
-use super::*;
 use ath_env::Value;
 use ath_names::Names;
+use ath_print::{Event, Fault, FaultArg, FaultKind, line};
 use ath_sorts::{SVar, Signature, Sort, Sym};
 use ath_syntax::Pos;
 use ath_terms::Store;

@@ -4,7 +4,7 @@ ghost use Rattle.std.specs.Prelude.{◌≡◌, ◌<◌, length, IfOk};
 ghost use Rattle.ath_trees.specs.Tree.{var};
 ghost use Rattle.ath_terms.specs.Trees.{Grows, IsTerm};
 
-use super::*;
+use ath_construction::{app, ascribe, atom, connective, equation, quantify};
 use ath_sorts::sorts::{BOOLEAN, is_same};
 use ath_sorts::{SVar, Signature, Sort, Sym};
 use ath_terms::{BuildError, Fresh, SentNode, Store, TermNode};

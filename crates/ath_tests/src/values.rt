@@ -1,7 +1,7 @@
 ghost use Rattle.std.specs.Prelude.{IfOk};
 ghost use Rattle.ath_env.specs.Stands.{IsIn};
 
-use super::*;
+use ath_env::{Value, look_up, sentence, value_of};
 use ath_names::Names;
 use ath_sorts::{Signature, Sort, Sym};
 use ath_terms::Store;

@@ -1,13 +1,13 @@
-// Nodes, on small stores.
+// Connectives of two parts, and nodes on small stores.
 
 ghost use Rattle.std.specs.Prelude.{◌<◌, length, IfOk};
 ghost use Rattle.ath_trees.specs.Tree.{var};
 ghost use Rattle.ath_terms.specs.Trees.{Grows, IsTerm};
 
-use super::*;
 use ath_sorts::sorts::BOOLEAN;
 use ath_sorts::{Sort, Sym};
-use ath_trees::{TermId, Var};
+use ath_terms::{SentNode, Store};
+use ath_trees::{Binary, Conn, TermId, Var};
 use sqlite_items::Items;
 use std::alloc::Global;
 use std::test::Fail;
@@ -48,6 +48,15 @@ fn plain_pair(alloc: Global, store: &mut Store, x: TermId, y: TermId) -> Result<
     let own = constant(alloc, BOOLEAN);
     let made = store.raw_app(alloc, F, &Vec::new(alloc), &args, &own)?;
     Ok(made)
+}
+
+#[test]
+fn connectives_of_two_parts(rt: HostRuntime) -> Result<(), Fail> {
+    for joining in [Binary::And, Binary::Or, Binary::If, Binary::Iff] {
+        assert_eq!(rt; joining.conn().binary(), Some(joining));
+    }
+    assert_eq!(rt; Conn::Not.binary(), None);
+    Ok(())
 }
 
 #[test]

@@ -1,4 +1,4 @@
-use super::*;
+use ath_base::{Base, Origin};
 use ath_sorts::{Sort, Sym};
 use ath_terms::{SentNode, Store};
 use ath_trees::Var;

@@ -5,9 +5,9 @@ ghost use Rattle.ath_sorts.specs.declared.sorts.SVar.TheVariants.{Made};
 ghost use Rattle.ath_sorts.specs.declared.sorts.Sort.{Var as sort_var};
 ghost use Rattle.ath_terms.specs.Trees.{sort_at, Grows};
 
-use crate::error::SubstError;
-use crate::substitution::{apply_sorts, apply_sorts_term, close_over, subst_sent, subst_term};
 use ath_sorts::{SVar, Sort, SortSubst, Sym};
+use ath_subst::error::SubstError;
+use ath_subst::substitution::{apply_sorts, apply_sorts_term, close_over, subst_sent, subst_term};
 use ath_terms::{SentNode, Store, TermNode};
 use ath_trees::{Quant, SentId, TermId, Var};
 use std::alloc::Global;

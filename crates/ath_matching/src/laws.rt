@@ -3,6 +3,6 @@
 ghost use Rattle.ath_matching.specs.Laws.{InstancesAgree};
 
 /// Two instances of one list off the same rigid variables are equal.
-pub fn laws()
-    ensures instances_agree { InstancesAgree }
+pub fn instances_agree()
+    ensures { InstancesAgree }
 {}

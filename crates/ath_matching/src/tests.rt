@@ -8,6 +8,7 @@ use std::alloc::{AllocError, Global};
 use std::test::Fail;
 
 const X: SVar = SVar::Written(Sym(10));
+
 const Y: SVar = SVar::Written(Sym(11));
 
 /// The one variable that is rigid.

@@ -13,7 +13,7 @@ use crate::draft::{Draft, put, put_number};
 use crate::sorts::put_sort;
 use ath_env::text_of;
 use ath_names::Names;
-use ath_sorts::sorts::{is_same, occurs_in};
+use ath_sorts::sorts::occurs_in;
 use ath_sorts::{SVar, Signature, Sort, Sym};
 use ath_terms::found::is_same_var;
 use ath_terms::{Store, TermNode};

@@ -4,7 +4,7 @@ ghost use Rattle.std.specs.Prelude.{◌<◌, length, IfOk};
 ghost use Rattle.ath_terms.specs.Trees.{Grows};
 
 use ath_alpha::{alpha_key, is_alpha_equal, sort_instance};
-use ath_sorts::sorts::BOOLEAN;
+use ath_sorts::sorts::{BOOLEAN, con};
 use ath_sorts::{SVar, Sort, Sym};
 use ath_terms::{SentNode, Store};
 use ath_trees::{Quant, SentId, Var};
@@ -47,7 +47,7 @@ fn quantified(
     let first = store.var(&named(alloc, left.0, left.1)?)?;
     let second = store.var(&named(alloc, right.0, right.1)?)?;
     let body = store.raw_sent(alloc, &SentNode::Eq(first, second))?;
-    let variable = named(alloc, bound.0, bound.1);
+    let variable = named(alloc, bound.0, bound.1)?;
     let whole = store.raw_sent(alloc, &SentNode::Quant(quant, variable, body))?;
     Ok(whole)
 }

@@ -3,7 +3,6 @@ pub mod SignatureLaws
 pub mod SortLaws
 pub mod SubstitutionLaws
 pub mod UnifierLaws
-pub mod MatchingLaws
 pub mod Gets
 pub mod GraphValues
 pub mod GraphTrees

@@ -1,4 +1,4 @@
--- Laws of signatures, substitutions, unifiers and instances.
+-- Laws of signatures, substitutions and unifiers.
 use Rattle.std.specs.Prelude.{◌≡◌, ℕ, false, List, [], ◌∷◌, ◌++◌, None}
 use Rattle.std.specs.List.{list_any}
 use Rattle.ath_sorts.specs.declared.signature.Symbol.{Symbol}
@@ -8,7 +8,6 @@ use Rattle.ath_sorts.specs.Signature.{Signature, initial}
 use Rattle.ath_sorts.specs.Validity.{AreDistinct, has_made, IsValid}
 use Rattle.ath_sorts.specs.declared.sorts.SVar.{SVar}
 use Rattle.ath_sorts.specs.declared.sorts.Sort.{Sort}
-use Rattle.ath_sorts.specs.Instances.{IsInstance}
 use Rattle.ath_sorts.specs.Sorts.{image, apply_to, after}
 use Rattle.ath_sorts.specs.Unifiers.{Unifies, IsLeastUnifier}
 
@@ -23,10 +22,6 @@ UnifiersFactor = (s : List (SVar × Sort)) (pairs : List (Sort × Sort)) (f : SV
 -- two least unifiers of one list are equal
 abbrev pub LeastUnifiersAgree : Type 0
 LeastUnifiersAgree = (s t : List (SVar × Sort)) (pairs : List (Sort × Sort)) → IsLeastUnifier s pairs → IsLeastUnifier t pairs → (v : SVar) → image s v ≡ image t v
-
--- two instances of one list are equal
-abbrev pub InstancesAgree : Type 0
-InstancesAgree = (s t : List (SVar × Sort)) (general special : List Sort) (rigid : List SVar) → IsInstance s general special rigid → IsInstance t general special rigid → (v : SVar) → image s v ≡ image t v
 
 -- the first signature is valid
 abbrev pub FirstSignatureIsValid : Type 0

@@ -7,8 +7,6 @@ pub mod Validity
 pub mod Substitutions
 pub mod Order
 pub mod Unifiers
-pub mod Instances
-pub mod Matching
 pub mod Places
 pub mod Partitions
 pub mod Graphs

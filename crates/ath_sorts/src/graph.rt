@@ -13,7 +13,7 @@ ghost use Rattle.ath_sorts.specs.declared.sorts.Sort.{Sort};
 use crate::limits::{MOST_DEPTH, MOST_NODES};
 use crate::nodes::{Node, Nodes};
 use crate::partition::Partition;
-use crate::sorts::{SVar, Sort, Sym, is_same};
+use crate::sorts::{SVar, Sort, Sym, con, is_same};
 use crate::substitution::SortSubst;
 use sqlite_items::Items;
 use std::alloc::{AllocError, Global};
@@ -248,7 +248,8 @@ impl Graph {
                     let arg = self.tree(alloc, *child, depth - 1)?;
                     args.push(arg)?;
                 }
-                Ok(Sort::Con(*name, args))
+                let tree = con(alloc, *name, args)?;
+                Ok(tree)
             }
         }
     }

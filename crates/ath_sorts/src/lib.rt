@@ -4,7 +4,6 @@
 mod graph;
 pub mod laws;
 pub mod limits;
-pub mod matching;
 mod nodes;
 mod partition;
 pub mod signature;
@@ -14,7 +13,6 @@ pub mod substitution;
 mod tests;
 pub mod unification;
 
-pub use matching::instance;
 pub use signature::{Flaw, SigError, Signature, Symbol};
 pub use sorts::{SVar, Sort, Sym};
 pub use substitution::{SortSubst, UnifyError};

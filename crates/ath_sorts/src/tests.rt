@@ -1,12 +1,12 @@
-// Signatures, matching and unification, case by case.
+// Signatures and unification, case by case.
 //
 // Sorts are written behind their arguments: a letter from `u` on is a written variable, a digit a made one, `n` and `m`
 // are constants, `l` has one argument and `p` two. A `;` makes a pair of the last two sorts.
 
 use crate::signature::{SigError, Signature};
-use crate::sorts::{SVar, Sort, Sym, is_same};
+use crate::sorts::{SVar, Sort, Sym, con, is_same};
 use crate::substitution::{SortSubst, UnifyError};
-use crate::{instance, unify};
+use crate::unify;
 use sqlite_items::Items;
 use std::alloc::{AllocError, Global};
 use std::test::Fail;
@@ -42,7 +42,7 @@ fn read_letter(alloc: Global, read: &mut Vec<Sort>, letter: u8) -> Result<(), Al
     if letter >= b'u' || letter < b'a' {
         read.push(leaf_of(letter))?;
     } else {
-        read.push(Sort::Con(name_of(letter), args))?;
+        read.push(con(alloc, name_of(letter), args)?)?;
     }
     Ok(())
 }
@@ -145,7 +145,7 @@ fn chain(alloc: Global, pairs: &mut Vec<(Sort, Sort)>, first: u32) -> Result<(),
         twice.push(Sort::Var(SVar::Made(first + k)))?;
         pairs.push((
             Sort::Var(SVar::Made(first + k + 1)),
-            Sort::Con(Sym(7), twice),
+            con(alloc, Sym(7), twice)?,
         ))?;
     }
     Ok(())
@@ -159,18 +159,18 @@ fn is_too_large(alloc: Global, pairs: &Vec<(Sort, Sort)>) -> bool {
 fn wide(alloc: Global, more: usize) -> Result<Sort, AllocError> {
     let mut args = Items::new(alloc);
     for _ in 0..more {
-        args.push(Sort::Con(Sym(8), Items::new(alloc)))?;
+        args.push(con(alloc, Sym(8), Items::new(alloc))?)?;
     }
-    Ok(Sort::Con(Sym(9), args))
+    con(alloc, Sym(9), args)
 }
 
 /// A sort of a depth that is so much greater than one.
 fn deep(alloc: Global, more: usize) -> Result<Sort, AllocError> {
-    let mut sort = Sort::Con(Sym(8), Items::new(alloc));
+    let mut sort = con(alloc, Sym(8), Items::new(alloc))?;
     for _ in 0..more {
         let mut args = Items::new(alloc);
         args.push(sort)?;
-        sort = Sort::Con(Sym(9), args);
+        sort = con(alloc, Sym(9), args)?;
     }
     Ok(sort)
 }
@@ -211,46 +211,6 @@ fn large_sorts(rt: HostRuntime) -> Result<(), Fail> {
         matches!(&unify(alloc, &pairs), Err(UnifyError::Clash(121))),
         "one inside itself"
     );
-    Ok(())
-}
-
-/// Whether there is an instance, and it has these images.
-fn matched(
-    alloc: Global,
-    general: &[u8],
-    special: &[u8],
-    images: &[u8],
-) -> Result<bool, AllocError> {
-    let general = read_sorts(alloc, general)?;
-    let special = read_sorts(alloc, special)?;
-    let images = read_pairs(alloc, images)?;
-    let mut rigid = Vec::new(alloc);
-    rigid.push(SVar::Written(name_of(b'z')))?;
-    match instance(alloc, &general, &special, &rigid)? {
-        Some(found) => Ok(maps_all(&found, &images)),
-        None => Ok(false),
-    }
-}
-
-#[test]
-fn instances(rt: HostRuntime) -> Result<(), Fail> {
-    let cases: [(&'static str, &'static str, &'static str, bool); 6] = [
-        ("xly", "yln", "xy;yn;", true),
-        ("xx", "yy", "xy;", true),
-        ("xx", "yn", "", false),
-        ("zx", "zn", "xn;", true),
-        ("z", "n", "", false),
-        ("xl", "n", "", false),
-    ];
-    for (general, special, images, want) in cases {
-        let got = matched(
-            rt.alloc(),
-            general.as_bytes(),
-            special.as_bytes(),
-            images.as_bytes(),
-        )?;
-        assert_eq!(rt; got, want, "{general}");
-    }
     Ok(())
 }
 

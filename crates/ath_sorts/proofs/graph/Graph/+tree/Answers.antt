@@ -1,6 +1,6 @@
 use Rattle.std.proofs.Common.{sym, ◌∙◌, ap, subst, Some, List, [], ◌∷◌, ◌++◌, ℕ, take, get_or, arith}
 use Rattle.std.proofs.lemmas.List.{take_more, take_all}
-use Rattle.ath_sorts.specs.declared.sorts.Sort.{Sort, Var, Con}
+use Rattle.ath_sorts.specs.declared.sorts.Sort.{Sort, Var}
 use Rattle.ath_sorts.specs.declared.nodes.Node.TheVariants.{Branch}
 use Rattle.ath_sorts.specs.Graphs.{AllGrow, nothing, leaf, branch}
 use Rattle.ath_sorts.proofs.Gets.{get-from-or}
@@ -33,9 +33,9 @@ pub returns-in-Leaf : goal.returns-in-Leaf
 returns-in-Leaf t c =
     leaf c.in-Leaf.v (head_is c.args.self.now c.args.at c.requires.0 c.as_slice.result.now c.class_of.result c.index-as_slice-class_of.result c.requires.1.0 c.as_slice.ensures c.class_of.ensures c.index-as_slice-class_of.is ∙ ap Some c.in-Leaf.is) (λ _. Var c.in-Leaf.v)
 
-pub returns-after-loop-child : goal.returns-after-loop-child
-returns-after-loop-child t c =
+pub returns-in_ok-tree-in-Branch : goal.returns-in_ok-tree-in-Branch
+returns-in_ok-tree-in-Branch t c =
     let js = c.as_slice-child-items.result.now in
     let head = (head_is c.args.self.now c.args.at c.requires.0 c.as_slice.result.now c.class_of.result c.index-as_slice-class_of.result c.requires.1.0 c.as_slice.ensures c.class_of.ensures c.index-as_slice-class_of.is ∙ ap Some c.in-Branch.is) ∙ ap (λ (x : List ℕ). Some (Branch c.in-Branch.name x)) (sym c.as_slice-child-items.ensures) in
     let all = subst (λ (x : List ℕ). AllGrow c.args.self.now x c.loop-child.args) (take_all c.loop-child.child-index js c.loop-child-test.false) c.loop-child.invariant in
-    branch c.in-Branch.name js c.loop-child.args head all (λ _. Con c.in-Branch.name c.loop-child.args)
+    branch c.in-Branch.name js c.loop-child.args head all c.in_ok-tree-in-Branch.ensures

@@ -1,10 +1,10 @@
 use Rattle.std.proofs.Common.{◌∷◌, [], List, subst}
 use Rattle.ath_sorts.specs.declared.sorts.SVar.{SVar}
 use Rattle.ath_sorts.specs.declared.sorts.Sort.{Sort}
-use Rattle.ath_sorts.specs.Instances.{IsInstance}
-use Rattle.ath_sorts.specs.Matching.{MatchExtended}
-use Rattle.ath_sorts.proofs.MatchingLaws.{turn, turn_refused, all_of_turns, instance-of, refused-is, extended-is, refuses-all}
-use Rattle.ath_sorts.proofs.matching.instance.Goals as goal
+use Rattle.ath_matching.specs.Instances.{IsInstance}
+use Rattle.ath_matching.specs.Matching.{MatchExtended}
+use Rattle.ath_matching.proofs.MatchingLaws.{turn, turn_refused, all_of_turns, instance-of, refused-is, extended-is, refuses-all}
+use Rattle.ath_matching.proofs.matching.instance.Goals as goal
 
 pub returns-then-not-branch : goal.returns-then-not-branch
 returns-then-not-branch c =

@@ -1,9 +1,9 @@
 use Rattle.std.proofs.Common.{◌++◌, ◌∷◌, [], List, sym, ◌∙◌, subst, ap}
 use Rattle.ath_sorts.specs.declared.sorts.SVar.{SVar}
 use Rattle.ath_sorts.specs.declared.sorts.Sort.{Sort, Var}
-use Rattle.ath_sorts.specs.Matching.{Extends}
-use Rattle.ath_sorts.proofs.MatchingLaws.{extends-var, none-found}
-use Rattle.ath_sorts.proofs.matching.match_variable.Goals as goal
+use Rattle.ath_matching.specs.Matching.{Extends}
+use Rattle.ath_matching.proofs.MatchingLaws.{extends-var, none-found}
+use Rattle.ath_matching.proofs.matching.match_variable.Goals as goal
 
 pub returns : goal.returns
 returns c =

@@ -2,7 +2,7 @@
 use Rattle.std.specs.Prelude.{◌≡◌, Bool, true, false, IsTrue, IsSome, ◌↔◌, ◌⊎◌, List, Some}
 use Rattle.ath_sorts.specs.declared.sorts.SVar.{SVar}
 use Rattle.ath_sorts.specs.declared.sorts.Sort.{Sort}
-use Rattle.ath_sorts.specs.Instances.{IsOff, Instantiates, is_free}
+use Rattle.ath_matching.specs.Instances.{IsOff, Instantiates, is_free}
 use Rattle.ath_sorts.specs.Substitutions.{entry_of}
 
 -- f gives each variable of the map what the map gives it

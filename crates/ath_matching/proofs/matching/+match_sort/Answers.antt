@@ -1,7 +1,7 @@
 use Rattle.std.proofs.Common.{sym, ◌∙◌, ap, ◌∷◌, []}
 use Rattle.ath_sorts.specs.declared.sorts.Sort.{Con}
-use Rattle.ath_sorts.proofs.MatchingLaws.{turn, turn_refused, all_of_turns, extends-con-at, refuses-con-at, refused-is, extended-is}
-use Rattle.ath_sorts.proofs.matching.+match_sort.Goals as goal
+use Rattle.ath_matching.proofs.MatchingLaws.{turn, turn_refused, all_of_turns, extends-con-at, refuses-con-at, refused-is, extended-is}
+use Rattle.ath_matching.proofs.matching.+match_sort.Goals as goal
 
 pub returns-then-not-branch : goal.returns-then-not-branch
 returns-then-not-branch t c =

@@ -11,8 +11,8 @@ use Rattle.ath_sorts.specs.declared.sorts.SVar.{SVar}
 use Rattle.ath_sorts.specs.declared.sorts.Sort.{Sort, Var, Con}
 use Rattle.ath_sorts.specs.Sorts.{same_svar, image, apply_to, occurs}
 use Rattle.ath_sorts.specs.Substitutions.{entry_of}
-use Rattle.ath_sorts.specs.Instances.{is_rigid, IsOff, Instantiates, is_free, IsInstance}
-use Rattle.ath_sorts.specs.Matching.{Agrees, Extends, Refuses, MatchExtended}
+use Rattle.ath_matching.specs.Instances.{is_rigid, IsOff, Instantiates, is_free, IsInstance}
+use Rattle.ath_matching.specs.Matching.{Agrees, Extends, Refuses, MatchExtended}
 use Rattle.ath_sorts.proofs.SortLaws.{sort_induction, apply-var, apply-con, occurs-var, occurs-con, Con-inj, same_svar-true, same_svar-refl, same-or-not}
 use Rattle.ath_sorts.proofs.SubstitutionLaws.{image-some, image-none}
 use Rattle.ath_sorts.proofs.Bools.{either_of, either_to, or-false}

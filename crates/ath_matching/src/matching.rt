@@ -1,11 +1,11 @@
 // Matching of sorts.
 
 ghost use Rattle.std.specs.Prelude.{◌≡◌, ◌∷◌, [], IfOk};
-ghost use Rattle.ath_sorts.specs.Instances.{MatchInstance, is_rigid};
-ghost use Rattle.ath_sorts.specs.Matching.{MatchExtended};
+ghost use Rattle.ath_matching.specs.Instances.{MatchInstance, is_rigid};
+ghost use Rattle.ath_matching.specs.Matching.{MatchExtended};
 
-use crate::sorts::{SVar, Sort, copied, is_same};
-use crate::substitution::SortSubst;
+use ath_sorts::SortSubst;
+use ath_sorts::sorts::{SVar, Sort, copied, is_same};
 use std::alloc::{AllocError, Global};
 
 /// The substitution on the variables of `general` that aren't rigid, which makes it `special`.
@@ -77,7 +77,7 @@ fn match_variable(
     if let Some(bound) = found.get(v) {
         return Ok(is_same(bound, special));
     }
-    found.push(v, copied(alloc, special)?)?;
+    found.push(v, copied(special)?)?;
     Ok(true)
 }
 

@@ -3,7 +3,7 @@
 ghost use Rattle.std.specs.Prelude.{◌≡◌, ◌<◌, length, IfOk};
 ghost use Rattle.ath_alpha.specs.Answer.{answer};
 ghost use Rattle.ath_alpha.specs.Binders.{binders_of};
-ghost use Rattle.ath_matching.specs.Instances.{is_rigid};
+ghost use Rattle.ath_sorts.specs.Instances.{is_rigid};
 ghost use Rattle.ath_terms.specs.Trees.{term_at, sent_at};
 ghost use Rattle.ath_trees.specs.Instance.{match_term, match_sent, sort_instance};
 ghost use Rattle.ath_trees.specs.Nameless.{placed, nameless_term, nameless_under};

@@ -9,11 +9,12 @@ ghost use Rattle.ath_construction.specs.Construction.{pair_after, variable_pairs
 ghost use Rattle.ath_construction.specs.Steps.{IsClashAt, MatchSolved};
 
 use ath_sorts::sorts::copied;
-use ath_sorts::{Sort, SortSubst, UnifyError, unify};
+use ath_sorts::{Sort, SortSubst};
 use ath_terms::found::is_namesake;
 use ath_terms::key::name_key;
 use ath_terms::{BuildError, NameKey};
 use ath_trees::Var;
+use ath_unifiers::{UnifyError, unify};
 use indexmap::IndexMap;
 use std::alloc::{AllocError, Global};
 

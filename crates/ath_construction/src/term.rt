@@ -17,12 +17,13 @@ ghost use Rattle.ath_terms.specs.Limits.{MatchMeasured};
 
 use crate::pairs::{add_pair, add_variable_pairs, clash, solve};
 use ath_sorts::sorts::{BOOLEAN, con};
-use ath_sorts::{Sort, SortSubst, UnifyError, unify};
+use ath_sorts::{Sort, SortSubst};
 use ath_subst::terms::{is_term_within, term_under};
 use ath_terms::limits::check_limits;
 use ath_terms::variables::add_term_vars;
 use ath_terms::{BuildError, FoundVars, Store};
 use ath_trees::{SentId, TermId};
+use ath_unifiers::{UnifyError, unify};
 use sqlite_items::Items;
 use std::alloc::{AllocError, Global};
 

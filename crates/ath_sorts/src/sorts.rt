@@ -4,7 +4,7 @@ ghost use Rattle.std.specs.Prelude.{◌≡◌, IfOk, IsTrue, ◌↔◌};
 ghost use Rattle.ath_sorts.specs.Sorts.{same_svar, occurs};
 ghost use Rattle.ath_sorts.specs.declared.sorts.Sort.{Sort};
 
-use ath_shared::Shared;
+use crate::shared::Shared;
 use sqlite_items::Items;
 use std::alloc::{AllocError, Global};
 

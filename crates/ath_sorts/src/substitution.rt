@@ -4,7 +4,6 @@ ghost use Rattle.std.specs.Prelude.{◌≡◌, ℕ, ◌++◌, ◌∷◌, [], OnO
 ghost use Rattle.std.specs.Option.{option_copied};
 ghost use Rattle.ath_sorts.specs.Sorts.{same_svar, image, apply_to, size_of, depth_of, is_small};
 ghost use Rattle.ath_sorts.specs.Substitutions.{entry_of};
-ghost use Rattle.ath_sorts.specs.declared.substitution.UnifyError.TheVariants.{Memory};
 ghost use Rattle.ath_sorts.specs.declared.sorts.Sym.{Sym};
 
 use crate::limits::{MOST_DEPTH, MOST_NODES, is_depth_within, nodes_left};
@@ -13,27 +12,6 @@ use indexmap::IndexMap;
 use sqlite_items::Items;
 use std::alloc::{AllocError, Global};
 use std::marker::Model;
-use thiserror::Error;
-
-/// Why sorts aren't unified.
-#[derive(Debug, Drop, Error)]
-pub enum UnifyError {
-    /// The first place such that the pairs up to it have no unifier.
-    #[error("the sorts of pair {0} can't be made equal")]
-    Clash(usize),
-    #[error("a sort is above the limits")]
-    SortTooLarge,
-    #[error("out of memory")]
-    Memory,
-}
-
-impl From<AllocError> for UnifyError {
-    ghost from_gives = { λ _ e. e ≡ Memory };
-
-    fn from(_error: AllocError) -> UnifyError {
-        UnifyError::Memory
-    }
-}
 
 /// A finite map from sort variables to sorts, with a table of the variables' first entries. A variable that isn't in it
 /// stays as it is.

@@ -3,7 +3,7 @@
 ghost use Rattle.std.specs.Prelude.{◌≡◌, ◌++◌, ◌∷◌, [], find, IfOk, OnOk};
 ghost use Rattle.std.specs.List.{list_any};
 ghost use Rattle.std.specs.Option.{option_copied};
-ghost use Rattle.ath_sorts.specs.Order.{same_sort};
+ghost use Rattle.ath_sorts.specs.Equality.{same_sort};
 ghost use Rattle.ath_trees.specs.Variables.{is_namesake, same_var, with_var};
 ghost use Rattle.ath_terms.specs.Found.{var_key, same_var_key};
 

@@ -9,13 +9,13 @@ use Rattle.ath_sorts.specs.declared.sorts.Sort.{Sort, Var as sort_var, Con, out-
 use Rattle.ath_sorts.specs.declared.sorts.Sort.TheOpen as one
 use Rattle.ath_sorts.specs.declared.sorts.Sort.TheVariants.{rolls-Var, rolls-Con, outs-Var, outs-Con}
 use Rattle.ath_sorts.specs.declared.sorts.Sort.TheFolds.{fold-roll-Sort}
-use Rattle.ath_matching.specs.Matching.{Agrees}
+use Rattle.ath_sorts.specs.Matching.{Agrees}
 use Rattle.ath_sorts.specs.Sorts.{same_svar, image, apply_to}
 use Rattle.ath_sorts.specs.Substitutions.{entry_of}
-use Rattle.ath_sorts.specs.Order.{same_sort}
+use Rattle.ath_sorts.specs.Equality.{same_sort}
 use Rattle.ath_sorts.proofs.Bools.{and_parts, same_num, num_same}
 use Rattle.ath_sorts.proofs.Gets.{cons-head, cons-tail, some-inj}
-use Rattle.ath_matching.proofs.MatchingLaws.{extends-var}
+use Rattle.ath_sorts.proofs.MatchingLaws.{extends-var}
 use Rattle.ath_sorts.proofs.SameSorts.{same_sort-refl, same_sort-true}
 use Rattle.ath_sorts.proofs.SortLaws.{sort_induction, apply-var, apply-con, Con-inj, Var-not-Con, same_svar-true}
 use Rattle.ath_sorts.proofs.SubstitutionLaws.{image-some, image-none, sort_cases, entry-absent}

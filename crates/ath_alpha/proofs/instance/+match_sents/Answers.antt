@@ -1,5 +1,5 @@
 use Rattle.std.proofs.Common.{◌≡◌, rules, refl, sym, ◌∙◌, ap, arith}
-use Rattle.ath_matching.specs.Instances.{is_rigid}
+use Rattle.ath_sorts.specs.Instances.{is_rigid}
 use Rattle.ath_terms.specs.declared.node.SentNode.TheVariants.{Conn}
 use Rattle.ath_alpha.specs.Binders.{binders_of}
 use Rattle.ath_alpha.proofs.WalkLaws.{walk-end, walk-stops}

@@ -1,5 +1,5 @@
 use Rattle.std.proofs.Common.{◌≡◌, drop}
-use Rattle.ath_matching.specs.Instances.{is_rigid}
+use Rattle.ath_sorts.specs.Instances.{is_rigid}
 use Rattle.ath_alpha.specs.Binders.{binders_of}
 use Rattle.ath_alpha.proofs.WalkLaws.{walk}
 use Rattle.ath_alpha.proofs.MatchLaws.{match_terms_at}

@@ -1,5 +1,5 @@
 use Rattle.std.proofs.Common.{refl, sym, ◌∙◌}
-use Rattle.ath_matching.specs.Instances.{is_rigid}
+use Rattle.ath_sorts.specs.Instances.{is_rigid}
 use Rattle.ath_alpha.specs.Binders.{binders_of}
 use Rattle.ath_alpha.proofs.BinderLaws.{met}
 use Rattle.ath_alpha.proofs.instance.match_var.Goals as goal

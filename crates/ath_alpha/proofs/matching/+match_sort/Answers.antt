@@ -1,6 +1,6 @@
 use Rattle.std.proofs.Common.{sym, ◌∙◌, ap, arith}
 use Rattle.ath_sorts.specs.declared.sorts.Sort.{Con}
-use Rattle.ath_matching.specs.Instances.{is_rigid}
+use Rattle.ath_sorts.specs.Instances.{is_rigid}
 use Rattle.ath_trees.specs.Instance.{match_sort}
 use Rattle.ath_alpha.proofs.WalkLaws.{walk-uneven, walk-end, walk-more, walk-stops}
 use Rattle.ath_alpha.proofs.MatchLaws.{match-cons-same, match-cons-other}

@@ -1,5 +1,5 @@
 use Rattle.std.proofs.Common.{◌≡◌, drop}
-use Rattle.ath_matching.specs.Instances.{is_rigid}
+use Rattle.ath_sorts.specs.Instances.{is_rigid}
 use Rattle.ath_alpha.proofs.matching.is_rigid.Given as goal
 
 abbrev pub invariant-loop-w : goal.invariant-loop-w

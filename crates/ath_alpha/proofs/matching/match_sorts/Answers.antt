@@ -1,5 +1,5 @@
 use Rattle.std.proofs.Common.{sym, ◌∙◌, arith}
-use Rattle.ath_matching.specs.Instances.{is_rigid}
+use Rattle.ath_sorts.specs.Instances.{is_rigid}
 use Rattle.ath_trees.specs.Instance.{match_sort}
 use Rattle.ath_alpha.proofs.WalkLaws.{walk-uneven, walk-end, walk-more, walk-stops}
 use Rattle.ath_alpha.proofs.MatchLaws.{walk-sorts}

@@ -1,6 +1,0 @@
-use Rattle.std.proofs.Common.{◌≡◌, drop}
-use Rattle.ath_matching.specs.Instances.{is_rigid}
-use Rattle.ath_matching.proofs.matching.is_among.Given as goal
-
-abbrev pub invariant-loop-w : goal.invariant-loop-w
-invariant-loop-w l = is_rigid l.vars l.v ≡ is_rigid (drop l.w-index l.vars) l.v

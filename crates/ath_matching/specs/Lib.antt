@@ -1,3 +1,0 @@
-pub mod Instances
-pub mod Matching
-pub mod Laws

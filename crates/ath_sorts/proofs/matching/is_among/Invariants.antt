@@ -1,0 +1,6 @@
+use Rattle.std.proofs.Common.{◌≡◌, drop}
+use Rattle.ath_sorts.specs.Instances.{is_rigid}
+use Rattle.ath_sorts.proofs.matching.is_among.Given as goal
+
+abbrev pub invariant-loop-w : goal.invariant-loop-w
+invariant-loop-w l = is_rigid l.vars l.v ≡ is_rigid (drop l.w-index l.vars) l.v

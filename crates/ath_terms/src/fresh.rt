@@ -7,7 +7,7 @@ ghost use Rattle.ath_terms.specs.Fresh.{is_taken, IsFreshIndex};
 use ath_sorts::{SVar, Sym};
 
 /// The next index of a fresh variable, and the number of the next sort variable that is made.
-#[derive(Clone, Copy, Debug, PartialEq, Eq)]
+#[derive(Clone, Copy)]
 pub struct Fresh {
     pub var: u64,
     pub sort: u64,

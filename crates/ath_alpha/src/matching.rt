@@ -4,7 +4,7 @@ ghost use Rattle.std.specs.Prelude.{◌≡◌, map, IfOk, Some, if◌then◌else
 ghost use Rattle.ath_alpha.specs.Answer.{answer};
 ghost use Rattle.ath_sorts.specs.Instances.{is_rigid};
 ghost use Rattle.ath_sorts.specs.Substitutions.{entry_of};
-ghost use Rattle.ath_sorts.specs.Order.{same_sort};
+ghost use Rattle.ath_sorts.specs.Equality.{same_sort};
 ghost use Rattle.ath_trees.specs.Instance.{match_all, match_sort, noted};
 
 use ath_sorts::sorts::{copied, is_same};
@@ -43,7 +43,7 @@ fn match_variable(
     if let Some(bound) = found.get(v) {
         return Ok(are_same(bound, t));
     }
-    found.push(v, copied(alloc, t)?)?;
+    found.push(v, copied(t)?)?;
     Ok(true)
 }
 

@@ -10,7 +10,7 @@ use Rattle.ath_sorts.specs.declared.signature.Symbol.{Symbol}
 use Rattle.ath_sorts.specs.Sorts.{is_small, image, apply_to}
 use Rattle.ath_sorts.specs.Signature.{Signature, symbol_of, symbol_among, at_sorts}
 use Rattle.ath_sorts.specs.Declaring.{use_faults, use_fault}
-use Rattle.ath_sorts.specs.Unifiers.{Unifies}
+use Rattle.ath_unifiers.specs.Unifiers.{Unifies}
 use Rattle.ath_sorts.proofs.Bools.{and_parts, same_num}
 use Rattle.ath_sorts.proofs.Gets.{some-inj}
 use Rattle.ath_sorts.proofs.ValidityLaws.{first_none}

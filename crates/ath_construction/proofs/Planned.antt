@@ -5,12 +5,12 @@ use Rattle.std.specs.Prelude.{nat_lt, slice_get, slice_index_or, IsTrue}
 use Rattle.ath_sorts.specs.declared.sorts.SVar.{SVar}
 use Rattle.ath_sorts.specs.declared.sorts.Sort.{Sort}
 use Rattle.ath_sorts.specs.declared.signature.Symbol.{Symbol}
-use Rattle.ath_sorts.specs.declared.substitution.UnifyError.TheVariants.{Clash}
+use Rattle.ath_unifiers.specs.declared.unification.UnifyError.TheVariants.{Clash}
 use Rattle.ath_sorts.specs.Signature.{Signature, boolean}
 use Rattle.ath_sorts.specs.Sorts.{is_small, image}
-use Rattle.ath_sorts.specs.Unifiers.{HasUnifier, IsLeastUnifier, IsClash}
+use Rattle.ath_unifiers.specs.Unifiers.{HasUnifier, IsLeastUnifier, IsClash}
 use Rattle.ath_sorts.proofs.Bools.{true-not-false}
-use Rattle.ath_sorts.proofs.UnifierLaws.{agree}
+use Rattle.ath_unifiers.proofs.UnifierLaws.{agree}
 use Rattle.ath_unifiers.specs.Unified.{Unified, solved, clashes, too_large, unified}
 use Rattle.ath_unifiers.specs.Outcomes.{IsUnified}
 use Rattle.ath_unifiers.proofs.Outcomes.{unified_is, answer_is}

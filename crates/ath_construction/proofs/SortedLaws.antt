@@ -8,7 +8,7 @@ use Rattle.ath_sorts.specs.declared.sorts.Sort.{Sort}
 use Rattle.ath_sorts.specs.declared.signature.Symbol.{Symbol}
 use Rattle.ath_sorts.specs.Signature.{Signature, arity_of, symbol_of, at_sorts, boolean}
 use Rattle.ath_sorts.specs.Sorts.{image, apply_to}
-use Rattle.ath_sorts.specs.Unifiers.{IsLeastUnifier}
+use Rattle.ath_unifiers.specs.Unifiers.{IsLeastUnifier}
 use Rattle.ath_sorts.specs.Validity.{IsValid}
 use Rattle.ath_sorts.proofs.SortLaws.{apply-con}
 use Rattle.ath_unifiers.specs.Unified.{Unified, solved, clashes, too_large, unified}

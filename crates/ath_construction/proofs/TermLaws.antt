@@ -5,7 +5,7 @@ use Rattle.ath_sorts.specs.declared.sorts.SVar.{SVar}
 use Rattle.ath_sorts.specs.declared.sorts.Sort.{Sort}
 use Rattle.ath_sorts.specs.Signature.{Signature, boolean}
 use Rattle.ath_sorts.specs.Sorts.{image, apply_to}
-use Rattle.ath_sorts.specs.Unifiers.{HasUnifier}
+use Rattle.ath_unifiers.specs.Unifiers.{HasUnifier}
 use Rattle.ath_trees.specs.declared.node.TermId.{TermId}
 use Rattle.ath_trees.specs.declared.node.SentId.{SentId}
 use Rattle.ath_terms.specs.declared.measure.BuildError.{BuildError}

@@ -11,7 +11,7 @@ use Rattle.ath_sorts.specs.declared.sorts.Sort.TheVariants.{rolls-Var, rolls-Con
 use Rattle.ath_sorts.specs.declared.sorts.Sort.TheFolds.{fold-Sort, fold-roll-Sort}
 use Rattle.ath_sorts.specs.Signature.{Signature, arity_of}
 use Rattle.ath_sorts.specs.Sorts.{image, apply_to}
-use Rattle.ath_sorts.specs.Unifiers.{Unifies, IsLeastUnifier}
+use Rattle.ath_unifiers.specs.Unifiers.{Unifies, IsLeastUnifier}
 use Rattle.ath_sorts.proofs.SortLaws.{sort_induction, apply-var, apply-con}
 use Rattle.ath_sorts.proofs.Bools.{and_parts}
 use Rattle.ath_trees.specs.WellSorted.{has_arity, is_valid_sort}

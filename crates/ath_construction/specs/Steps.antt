@@ -3,7 +3,7 @@ use Rattle.std.specs.Prelude.{◌≡◌, ℕ, ◌<◌, false, IsTrue, List, slic
 use Rattle.ath_sorts.specs.declared.sorts.SVar.{SVar}
 use Rattle.ath_sorts.specs.declared.sorts.Sort.{Sort}
 use Rattle.ath_sorts.specs.Sorts.{is_small, image}
-use Rattle.ath_sorts.specs.Unifiers.{IsLeastUnifier, IsClash}
+use Rattle.ath_unifiers.specs.Unifiers.{IsLeastUnifier, IsClash}
 use Rattle.ath_trees.specs.declared.node.TermId.{TermId}
 use Rattle.ath_terms.specs.declared.measure.BuildError.{BuildError}
 use Rattle.ath_terms.specs.declared.measure.BuildError.TheVariants.{SortClash, NotBoolean, SortTooLarge, Memory}

@@ -52,7 +52,7 @@ fn at_sorts(alloc: Global, params: &[Sym], sorts: &[Sort]) -> Result<SortSubst, 
 {
     let mut subst = SortSubst::new(alloc);
     for i in 0..params.len() {
-        let sort = copied(alloc, &sorts[i])?;
+        let sort = copied(&sorts[i])?;
         subst.push(SVar::Written(params[i]), sort)?;
     }
     Ok(subst)
@@ -60,7 +60,6 @@ fn at_sorts(alloc: Global, params: &[Sym], sorts: &[Sort]) -> Result<SortSubst, 
 
 /// Adds for each argument the pair of its declared sort with its own.
 fn add_argument_pairs(
-    alloc: Global,
     store: &Store,
     pairs: &mut Vec<(Sort, Sort)>,
     declared: &[Sort],
@@ -71,7 +70,7 @@ fn add_argument_pairs(
     ensures { OnOk result (pairs.new.items ≡ pairs.old.items ++ zip declared.now (sorts_of store.now args.now)) }
 {
     for i in 0..args.len() {
-        add_pair(alloc, pairs, &declared[i], store.sort_of(args[i]))?;
+        add_pair(pairs, &declared[i], store.sort_of(args[i]))?;
     }
     Ok(())
 }
@@ -83,7 +82,7 @@ fn list_vars(alloc: Global, store: &Store, args: &[TermId]) -> Result<FoundVars,
 {
     let mut found = FoundVars::new(alloc);
     for i in 0..args.len() {
-        add_term_vars(alloc, store, &mut found, args[i])?;
+        add_term_vars(store, &mut found, args[i])?;
     }
     Ok(found)
 }
@@ -134,7 +133,7 @@ fn app_pairs(
 {
     let declared = sorts_under(alloc, inst, symbol.args.as_slice())?;
     let mut pairs = Vec::new(alloc);
-    add_argument_pairs(alloc, store, &mut pairs, declared.as_slice(), args)?;
+    add_argument_pairs(store, &mut pairs, declared.as_slice(), args)?;
     let marks = store.list_marks(args);
     if marks.is_apart {
         return Ok(pairs);

@@ -36,14 +36,14 @@ fn equation_pairs(
     ensures { IfOk result (λ pairs. pairs.items ≡ (sort_at store.now.sorts s.0, sort_at store.now.sorts t.0) ∷ variable_pairs (with_term (with_term [] (term_at store.now.terms s.0)) (term_at store.now.terms t.0))) }
 {
     let mut pairs = Vec::new(alloc);
-    add_pair(alloc, &mut pairs, store.sort_of(s), store.sort_of(t))?;
+    add_pair(&mut pairs, store.sort_of(s), store.sort_of(t))?;
     let marks = Marks::all().with(store.marks(s)).with(store.marks(t));
     if marks.is_apart {
         return Ok(pairs);
     }
     let mut found = FoundVars::new(alloc);
-    add_term_vars(alloc, store, &mut found, s)?;
-    add_term_vars(alloc, store, &mut found, t)?;
+    add_term_vars(store, &mut found, s)?;
+    add_term_vars(store, &mut found, t)?;
     add_variable_pairs(alloc, &mut pairs, found.as_slice())?;
     Ok(pairs)
 }

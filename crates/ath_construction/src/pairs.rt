@@ -9,11 +9,12 @@ ghost use Rattle.ath_construction.specs.Construction.{pair_after, variable_pairs
 ghost use Rattle.ath_construction.specs.Steps.{IsClashAt, MatchSolved};
 
 use ath_sorts::sorts::copied;
-use ath_sorts::{Sort, SortSubst, UnifyError, unify};
+use ath_sorts::{Sort, SortSubst};
 use ath_terms::found::is_namesake;
 use ath_terms::key::name_key;
 use ath_terms::{BuildError, NameKey};
 use ath_trees::Var;
+use ath_unifiers::{UnifyError, unify};
 use indexmap::IndexMap;
 use std::alloc::{AllocError, Global};
 
@@ -36,23 +37,17 @@ fn first_namesake<'a>(
 }
 
 /// Adds a pair with copies of two sorts.
-pub fn add_pair(
-    alloc: Global,
-    pairs: &mut Vec<(Sort, Sort)>,
-    left: &Sort,
-    right: &Sort,
-) -> Result<(), AllocError>
+pub fn add_pair(pairs: &mut Vec<(Sort, Sort)>, left: &Sort, right: &Sort) -> Result<(), AllocError>
     ensures { OnOk result (pairs.new.items ≡ pairs.old.items ++ (left.now, right.now) ∷ []) }
 {
-    let left = copied(alloc, left)?;
-    let right = copied(alloc, right)?;
+    let left = copied(left)?;
+    let right = copied(right)?;
     pairs.push((left, right))?;
     Ok(())
 }
 
 /// Adds the pair of v with the first of its namesakes before it, or files it as the first.
 fn add_pair_after(
-    alloc: Global,
     pairs: &mut Vec<(Sort, Sort)>,
     firsts: &mut IndexMap<NameKey, usize>,
     before: &[Var],
@@ -63,7 +58,7 @@ fn add_pair_after(
     ensures pairs { OnOk result (pairs.new.items ≡ pairs.old.items ++ pair_after (find (is_namesake v.now) before.now) v.now) }
 {
     if let Some(first) = first_namesake(firsts, before, v) {
-        add_pair(alloc, pairs, &first.sort, &v.sort)?;
+        add_pair(pairs, &first.sort, &v.sort)?;
         return Ok(());
     }
     firsts.insert(name_key(v), before.len())?;
@@ -80,18 +75,18 @@ pub fn add_variable_pairs(
 {
     let mut firsts = IndexMap::new(alloc);
     for i in 0..found.len() {
-        add_pair_after(alloc, pairs, &mut firsts, &found[..i], &found[i])?;
+        add_pair_after(pairs, &mut firsts, &found[..i], &found[i])?;
     }
     Ok(())
 }
 
-pub fn clash(alloc: Global, pairs: &Vec<(Sort, Sort)>, at: usize) -> Result<BuildError, AllocError>
+pub fn clash(pairs: &Vec<(Sort, Sort)>, at: usize) -> Result<BuildError, AllocError>
     requires { at < length pairs.now.items }
     ensures { IfOk result (λ e. IsClashAt pairs.now.items at e) }
 {
     let pair = &pairs[at];
-    let left = copied(alloc, &pair.0)?;
-    let right = copied(alloc, &pair.1)?;
+    let left = copied(&pair.0)?;
+    let right = copied(&pair.1)?;
     Ok(BuildError::SortClash(left, right))
 }
 
@@ -102,7 +97,7 @@ pub fn solve(alloc: Global, pairs: &Vec<(Sort, Sort)>) -> Result<SortSubst, Buil
     match unify(alloc, pairs) {
         Ok(subst) => Ok(subst),
         Err(UnifyError::Clash(at)) => {
-            let told = clash(alloc, pairs, at)?;
+            let told = clash(pairs, at)?;
             Err(told)
         }
         Err(UnifyError::SortTooLarge) => Err(BuildError::SortTooLarge),

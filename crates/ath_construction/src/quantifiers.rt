@@ -40,7 +40,7 @@ fn quantifier_pairs(
 {
     let mut pairs = Vec::new(alloc);
     let mut found = FoundVars::new(alloc);
-    found.add(alloc, v)?;
+    found.add(v)?;
     add_sent_vars(alloc, store, &mut found, body)?;
     add_variable_pairs(alloc, &mut pairs, found.as_slice())?;
     Ok(pairs)

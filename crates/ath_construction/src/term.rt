@@ -16,13 +16,14 @@ ghost use Rattle.ath_construction.specs.Steps.{MatchBoolean};
 ghost use Rattle.ath_terms.specs.Limits.{MatchMeasured};
 
 use crate::pairs::{add_pair, add_variable_pairs, clash, solve};
-use ath_sorts::sorts::BOOLEAN;
-use ath_sorts::{Sort, SortSubst, UnifyError, unify};
+use ath_sorts::sorts::{BOOLEAN, con};
+use ath_sorts::{Sort, SortSubst};
 use ath_subst::terms::{is_term_within, term_under};
 use ath_terms::limits::check_limits;
 use ath_terms::variables::add_term_vars;
 use ath_terms::{BuildError, FoundVars, Store};
 use ath_trees::{SentId, TermId};
+use ath_unifiers::{UnifyError, unify};
 use sqlite_items::Items;
 use std::alloc::{AllocError, Global};
 
@@ -36,21 +37,21 @@ fn term_pairs(
     ensures { IfOk result (λ pairs. pairs.items ≡ (sort_at store.now.sorts t.0, sort.now) ∷ variable_pairs (with_term [] (term_at store.now.terms t.0))) }
 {
     let mut pairs = Vec::new(alloc);
-    add_pair(alloc, &mut pairs, store.sort_of(t), sort)?;
+    add_pair(&mut pairs, store.sort_of(t), sort)?;
     let marks = store.marks(t);
     if marks.is_apart {
         return Ok(pairs);
     }
     let mut found = FoundVars::new(alloc);
-    add_term_vars(alloc, store, &mut found, t)?;
+    add_term_vars(store, &mut found, t)?;
     add_variable_pairs(alloc, &mut pairs, found.as_slice())?;
     Ok(pairs)
 }
 
-fn boolean_sort(alloc: Global) -> Sort
-    ensures { result ≡ boolean }
+fn boolean_sort(alloc: Global) -> Result<Sort, AllocError>
+    ensures { IfOk result (λ sort. sort ≡ boolean) }
 {
-    Sort::Con(BOOLEAN, Items::new(alloc))
+    con(alloc, BOOLEAN, Items::new(alloc))
 }
 
 fn check_term(store: &Store, subst: &SortSubst, t: TermId) -> Result<(), BuildError>
@@ -73,7 +74,7 @@ fn solve_atom(alloc: Global, pairs: &Vec<(Sort, Sort)>, t: TermId) -> Result<Sor
             if at == 0 {
                 return Err(BuildError::NotBoolean(t));
             }
-            let told = clash(alloc, pairs, at)?;
+            let told = clash(pairs, at)?;
             Err(told)
         }
         Err(UnifyError::SortTooLarge) => Err(BuildError::SortTooLarge),
@@ -125,7 +126,7 @@ pub fn atom(alloc: Global, store: &mut Store, t: TermId) -> Result<SentId, Build
     ensures built { (sig : Signature) → IsSortedIn sig store.old → IsSentBuilt store.new (made_atom sig (term_at store.old.terms t.0)) result }
     ensures sorted { (sig : Signature) → IsSortedIn sig store.old → IsSortedIn sig store.new }
 {
-    let boolean = boolean_sort(alloc);
+    let boolean = boolean_sort(alloc)?;
     let pairs = term_pairs(alloc, store, t, &boolean)?;
     let subst = solve_atom(alloc, &pairs, t)?;
     check_term(store, &subst, t)?;

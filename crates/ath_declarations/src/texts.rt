@@ -6,6 +6,7 @@ ghost use Rattle.ath_declarations.specs.Texts.{meaning, sort_of};
 
 use crate::checks::check_constructors;
 use ath_sorts::limits::is_within_limits;
+use ath_sorts::sorts::con;
 use ath_sorts::{SVar, SigError, Signature, Sort};
 use ath_syntax::SortText;
 use sqlite_items::Items;
@@ -29,14 +30,14 @@ pub(crate) fn spelled(alloc: Global, text: &SortText) -> Result<Sort, AllocError
     ensures { IfOk result (λ s. s ≡ sort_of text.now) }
 {
     match text {
-        SortText::Name(name) => Ok(Sort::Con(*name, Items::new(alloc))),
+        SortText::Name(name) => con(alloc, *name, Items::new(alloc)),
         SortText::Var(name) => Ok(Sort::Var(SVar::Written(*name))),
         SortText::Con(name, args) => {
             let mut sorts = Items::new(alloc);
             for arg in args.as_slice() {
                 sorts.push(spelled(alloc, arg)?)?;
             }
-            Ok(Sort::Con(*name, sorts))
+            con(alloc, *name, sorts)
         }
     }
 }

@@ -7,7 +7,7 @@ use Rattle.ath_sorts.specs.declared.sorts.Sort.TheOpen as one
 use Rattle.ath_sorts.specs.declared.sorts.Sort.TheVariants.{rolls-Con, outs-Con}
 use Rattle.ath_sorts.specs.declared.sorts.Sort.TheFolds.{fold-roll-Sort}
 use Rattle.ath_sorts.specs.Signature.{Signature, boolean}
-use Rattle.ath_sorts.specs.Order.{all_pass, same_step, same_sort}
+use Rattle.ath_sorts.specs.Equality.{all_pass, same_step, same_sort}
 use Rattle.ath_sorts.proofs.SameSorts.{same_sort-true}
 use Rattle.ath_trees.specs.declared.node.TermId.{TermId}
 use Rattle.ath_trees.specs.declared.node.SentId.{SentId}

@@ -3,7 +3,7 @@ use Rattle.std.specs.Prelude.{ℕ, Option, Some, None, if◌then◌else◌}
 use Rattle.ath_sorts.specs.declared.sorts.Sym.{Sym}
 use Rattle.ath_sorts.specs.declared.sorts.Sort.{Sort}
 use Rattle.ath_sorts.specs.Signature.{boolean}
-use Rattle.ath_sorts.specs.Order.{same_sort}
+use Rattle.ath_sorts.specs.Equality.{same_sort}
 use Rattle.ath_trees.specs.declared.node.Conn.{Conn as Connective}
 use Rattle.ath_trees.specs.declared.node.Quant.{Quant as Quantifier}
 use Rattle.ath_trees.specs.Tree.{Term, Sent, atom, equal, negated, joined, bound}

@@ -2,7 +2,7 @@
 
 ghost use Rattle.std.specs.Prelude.{◌≡◌, ◌<◌, Option, IfOk, length};
 ghost use Rattle.ath_sorts.specs.Signature.{Signature, boolean};
-ghost use Rattle.ath_sorts.specs.Order.{same_sort};
+ghost use Rattle.ath_sorts.specs.Equality.{same_sort};
 ghost use Rattle.ath_terms.specs.Trees.{Grows, sent_at};
 ghost use Rattle.ath_terms.specs.SortsIn.{IsSortedIn};
 ghost use Rattle.ath_env.specs.Values.{sentence_of, value_of};

@@ -9,7 +9,7 @@ use Rattle.ath_sorts.specs.declared.sorts.SVar.TheVariants.{Made}
 use Rattle.ath_sorts.specs.declared.sorts.Sort.{Sort}
 use Rattle.ath_sorts.specs.declared.signature.Symbol.{Symbol}
 use Rattle.ath_sorts.specs.Signature.{Signature, arity_of, symbol_of, boolean}
-use Rattle.ath_sorts.specs.Order.{same_sort}
+use Rattle.ath_sorts.specs.Equality.{same_sort}
 use Rattle.ath_sorts.specs.Validity.{IsValid}
 use Rattle.ath_sorts.proofs.SameSorts.{same_sort-true}
 use Rattle.ath_syntax.specs.declared.node.SortText.{SortText}

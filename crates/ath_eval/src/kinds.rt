@@ -106,7 +106,7 @@ fn as_variable(alloc: Global, store: &Store, value: Value) -> Result<Option<Var>
         return Ok(None);
     };
     match store.term(t) {
-        TermNode::Var(v) => Ok(Some(copied_var(alloc, v)?)),
+        TermNode::Var(v) => Ok(Some(copied_var(v)?)),
         TermNode::App(..) => Ok(None),
     }
 }

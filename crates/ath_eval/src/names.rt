@@ -77,36 +77,25 @@ pub(crate) fn find(alloc: Global, w: &mut World, name: Sym, at: Pos) -> Result<O
 }
 
 /// A variable of this sort.
-fn variable_of(
-    alloc: Global,
-    w: &mut World,
-    name: Sym,
-    index: u64,
-    sort: Sort,
-) -> Result<Outcome, AllocError>
+fn variable_of(w: &mut World, name: Sym, index: u64, sort: Sort) -> Result<Outcome, AllocError>
     requires { is_valid_sort w.old.sig sort ≡ true }
     ensures rests { Rests w.old w.new }
     ensures outcome { IfOk result (λ o. IsSteady w.new.store o (evaluation.variable_of name index sort)) }
 {
-    match w.store.var(alloc, &Var { name, index, sort }) {
+    match w.store.var(&Var { name, index, sort }) {
         Ok(t) => Ok(Outcome::Value(Value::Term(t))),
         Err(_memory) => Err(AllocError),
     }
 }
 
 /// A variable without a sort has the next made sort variable.
-fn unsorted_variable(
-    alloc: Global,
-    w: &mut World,
-    name: Sym,
-    index: u64,
-) -> Result<Outcome, AllocError>
+fn unsorted_variable(w: &mut World, name: Sym, index: u64) -> Result<Outcome, AllocError>
     requires { HasRoom w.old }
     ensures works { Works w.old w.new }
     ensures outcome { IfOk result (λ o. (at : Place) → IsAnswerIn w.old w.new o (evaluation.variable (context_of w.old) name index None at)) }
 {
     let sort = Sort::Var(w.fresh.sort_var());
-    let outcome = variable_of(alloc, w, name, index, sort)?;
+    let outcome = variable_of(w, name, index, sort)?;
     Ok(outcome)
 }
 
@@ -125,7 +114,7 @@ fn sorted_variable(
 {
     match meant {
         Ok(sort) => {
-            let outcome = variable_of(alloc, w, name, index, sort)?;
+            let outcome = variable_of(w, name, index, sort)?;
             Ok(outcome)
         }
         Err(error) => {
@@ -165,7 +154,7 @@ pub(crate) fn variable(
 {
     match sort {
         None => {
-            let outcome = unsorted_variable(alloc, w, name, index)?;
+            let outcome = unsorted_variable(w, name, index)?;
             Ok(outcome)
         }
         Some(meant) => {

@@ -1,4 +1,4 @@
--- When two sorts are one, and the variables of a sort.
+-- When two sorts are one.
 use Rattle.std.proofs.Common.{◌≡◌, Bool, true, ◌&&◌, ◌==◌, List, [], ◌∷◌, map, refl, sym, ◌∙◌, ap, inl, inr}
 use Rattle.std.specs.List.{AllByRecursion}
 use Rattle.ath_sorts.specs.declared.sorts.Sym.{Sym}
@@ -7,16 +7,10 @@ use Rattle.ath_sorts.specs.declared.sorts.Sort.{Sort, Var, Con, out-Sort}
 use Rattle.ath_sorts.specs.declared.sorts.Sort.TheOpen as one
 use Rattle.ath_sorts.specs.declared.sorts.Sort.TheVariants.{rolls-Var, rolls-Con, outs-Var, outs-Con}
 use Rattle.ath_sorts.specs.declared.sorts.Sort.TheFolds.{fold-roll-Sort}
-use Rattle.ath_sorts.specs.Order.{all_pass, same_step, same_sort, joined, vars_step, vars_of}
+use Rattle.ath_sorts.specs.Equality.{all_pass, same_step, same_sort}
 use Rattle.ath_sorts.proofs.SortLaws.{sort_induction, same_svar-true, same_svar-refl}
 use Rattle.ath_sorts.proofs.SubstitutionLaws.{sort_cases}
 use Rattle.ath_sorts.proofs.Bools.{and_parts, same_num, num_same}
-
-pub vars-var : (v : SVar) → vars_of (Var v) ≡ v ∷ []
-vars-var v = ap vars_of (sym (rolls-Var v)) ∙ fold-roll-Sort (List SVar) vars_step (one.Var v)
-
-pub vars-con : (c : Sym) (args : List Sort) → vars_of (Con c args) ≡ joined (map vars_of args)
-vars-con c args = ap vars_of (sym (rolls-Con c args)) ∙ fold-roll-Sort (List SVar) vars_step (one.Con c args)
 
 same-var : (v : SVar) (t : Sort) → same_sort (Var v) t ≡ same_step (one.Var v) (out-Sort t)
 same-var v t = ap (λ s. same_sort s t) (sym (rolls-Var v)) ∙ ap (λ (k : Sort → Bool). k t) (fold-roll-Sort (Sort → Bool) (λ x t. same_step x (out-Sort t)) (one.Var v))

@@ -1,3 +1,4 @@
+pub mod formers
 pub mod Sorts
 pub mod Signature
 pub mod Kept
@@ -5,11 +6,8 @@ pub mod Declaring
 pub mod Answers
 pub mod Validity
 pub mod Substitutions
-pub mod Order
-pub mod Unifiers
+pub mod Places
+pub mod Laws
+pub mod Equality
 pub mod Instances
 pub mod Matching
-pub mod Places
-pub mod Partitions
-pub mod Graphs
-pub mod Laws

@@ -1,22 +1,12 @@
--- Where the variables of a graph have their nodes, and those of a substitution their entries.
+-- Where the variables of a substitution have their entries.
 use Rattle.std.specs.Prelude.{◌≡◌, ℕ, ◌<◌, Bool, false, List, slice_get, Option, Some, None, if◌then◌else◌}
 use Rattle.std.specs.Map.{lookup}
-use Rattle.ath_sorts.specs.declared.nodes.Node.{Node}
-use Rattle.ath_sorts.specs.declared.nodes.Node.TheVariants.{Leaf}
 use Rattle.ath_sorts.specs.declared.sorts.SVar.{SVar}
 use Rattle.ath_sorts.specs.declared.sorts.SVar.TheVariants.{Written, Made}
 use Rattle.ath_sorts.specs.declared.sorts.Sym.{Sym}
 use Rattle.ath_sorts.specs.declared.sorts.Sort.{Sort, Var}
 use Rattle.ath_sorts.specs.Sorts.{same_svar, image}
 use Rattle.ath_sorts.specs.Substitutions.{entry_of}
-
--- no node is the variable's
-abbrev pub LeafFree : List Node → SVar → Type 0
-LeafFree nodes v = (i : ℕ) → slice_get nodes i ≡ Some (Leaf v) → ⊥
-
--- the table has the node of each variable
-abbrev pub HasPlaces : List Node → List (SVar × ℕ) → Type 0
-HasPlaces nodes places = (i : ℕ) (v : SVar) → slice_get nodes i ≡ Some (Leaf v) → lookup (same_svar v) places ≡ Some i
 
 -- the sort of an entry, if it is the variable's
 abbrev pub sort_of_entry : Option (SVar × Sort) → SVar → Option Sort

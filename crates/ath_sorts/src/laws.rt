@@ -1,16 +1,13 @@
-// Laws of signatures, substitutions, unifiers and instances. Each clause is a law, and there is no code.
+// Laws of signatures, substitutions and instances. Each clause is a law, and there is no code.
 
-ghost use Rattle.ath_sorts.specs.Laws.{ApplyingIsComposition, FirstSignatureIsValid, InstancesAgree, LeastUnifiersAgree, SortsKeepValidity, SymbolsKeepValidity, UnifiersFactor};
+ghost use Rattle.ath_sorts.specs.Laws.{ApplyingIsComposition, FirstSignatureIsValid, InstancesAgree, SortsKeepValidity, SymbolsKeepValidity};
 
-/// To apply two substitutions in turn is to apply one. A unifier factors through the least one. Two least most general
-/// unifiers of one list of pairs are equal, and so are two instances of one list off the same rigid variables.
+/// To apply two substitutions in turn is to apply one. Two instances of one list off the same rigid variables are equal.
 ///
 /// The first signature is valid. A sort constructor that isn't refused keeps a signature valid, and so does a symbol, where
 /// its parameters differ and no variable in its sorts was made.
 pub fn laws()
     ensures applying_is_composition { ApplyingIsComposition }
-    ensures unifiers_factor { UnifiersFactor }
-    ensures least_unifiers_agree { LeastUnifiersAgree }
     ensures instances_agree { InstancesAgree }
     ensures first_signature_is_valid { FirstSignatureIsValid }
     ensures sorts_keep_validity { SortsKeepValidity }

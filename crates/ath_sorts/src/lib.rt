@@ -1,21 +1,18 @@
-//! Sorts of a many-sorted language with sort variables, and signatures over them.
+//! Sorts of a many-sorted language with sort variables, their instances, and signatures over them.
 #![tactic(auto)]
 
-mod graph;
 pub mod laws;
 pub mod limits;
-pub mod matching;
-mod nodes;
-mod partition;
+mod matching;
+mod shared;
 pub mod signature;
 pub mod sorts;
 pub mod substitution;
 #[cfg(test)]
 mod tests;
-pub mod unification;
 
 pub use matching::instance;
+pub use shared::Shared;
 pub use signature::{Flaw, SigError, Signature, Symbol};
 pub use sorts::{SVar, Sort, Sym};
-pub use substitution::{SortSubst, UnifyError};
-pub use unification::unify;
+pub use substitution::SortSubst;

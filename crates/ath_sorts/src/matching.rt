@@ -77,7 +77,7 @@ fn match_variable(
     if let Some(bound) = found.get(v) {
         return Ok(is_same(bound, special));
     }
-    found.push(v, copied(alloc, special)?)?;
+    found.push(v, copied(special)?)?;
     Ok(true)
 }
 

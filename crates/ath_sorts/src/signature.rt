@@ -11,7 +11,7 @@ ghost use Rattle.ath_sorts.specs.Answers.{MatchFault, IsFault};
 ghost use Rattle.ath_sorts.specs.declared.signature.SigError.TheVariants.{Memory};
 
 use crate::limits::{MOST_WIDTH, is_within_limits};
-use crate::sorts::{BOOLEAN, SVar, Sort, Sym, copied, occurs_in};
+use crate::sorts::{BOOLEAN, SVar, Sort, Sym, con, copied, occurs_in};
 use indexmap::IndexMap;
 use sqlite_items::Items;
 use std::alloc::{AllocError, Global};
@@ -113,7 +113,7 @@ impl Signature {
         let mut sorts = IndexMap::new(alloc);
         sorts.insert(BOOLEAN, 0)?;
         let mut symbols = IndexMap::new(alloc);
-        let boolean = Sort::Con(BOOLEAN, Items::new(alloc));
+        let boolean = con(alloc, BOOLEAN, Items::new(alloc))?;
         let truth = symbol_over(alloc, Sym(1), &[], &[], &boolean)?;
         symbols.insert(Sym(1), truth)?;
         let falsity = symbol_over(alloc, Sym(2), &[], &[], &boolean)?;
@@ -302,12 +302,12 @@ fn symbol_over(
     let params = Items::from_slice(alloc, params)?;
     let mut copies = Items::new(alloc);
     for arg in args {
-        copies.push(copied(alloc, arg)?)?;
+        copies.push(copied(arg)?)?;
     }
     Ok(Symbol {
         name,
         params,
         args: copies,
-        result: copied(alloc, result_sort)?,
+        result: copied(result_sort)?,
     })
 }

@@ -2,7 +2,9 @@
 
 ghost use Rattle.std.specs.Prelude.{◌≡◌, IfOk, IsTrue, ◌↔◌};
 ghost use Rattle.ath_sorts.specs.Sorts.{same_svar, occurs};
+ghost use Rattle.ath_sorts.specs.declared.sorts.Sort.{Sort};
 
+use crate::shared::Shared;
 use sqlite_items::Items;
 use std::alloc::{AllocError, Global};
 
@@ -21,7 +23,7 @@ pub enum SVar {
 #[derive(Debug, Drop)]
 pub enum Sort {
     Var(SVar),
-    Con(Sym, Items<Sort>),
+    Con(Sym, Shared<Items<Sort>>),
 }
 
 impl SVar {
@@ -40,19 +42,20 @@ impl SVar {
 /// The sort Boolean.
 pub const BOOLEAN: Sym = Sym(0);
 
-/// The sort again.
-pub fn copied(alloc: Global, sort: &Sort) -> Result<Sort, AllocError>
+/// The constructor applied to the sorts.
+pub fn con(alloc: Global, name: Sym, args: Items<Sort>) -> Result<Sort, AllocError>
+    ensures { IfOk result (λ sort. sort ≡ Sort.Con name args) }
+{
+    Ok(Sort::Con(name, Shared::new(alloc, args)?))
+}
+
+/// The sort again. It shares its arguments with the one that it is copied from.
+pub fn copied(sort: &Sort) -> Result<Sort, AllocError>
     ensures { IfOk result (λ copy. copy ≡ sort.now) }
 {
     match sort {
         Sort::Var(v) => Ok(Sort::Var(*v)),
-        Sort::Con(c, args) => {
-            let mut copies = Items::new(alloc);
-            for arg in args.as_slice() {
-                copies.push(copied(alloc, arg)?)?;
-            }
-            Ok(Sort::Con(*c, copies))
-        }
+        Sort::Con(name, args) => Ok(Sort::Con(*name, args.copied()?)),
     }
 }
 

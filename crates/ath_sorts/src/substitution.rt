@@ -3,37 +3,15 @@
 ghost use Rattle.std.specs.Prelude.{◌≡◌, ℕ, ◌++◌, ◌∷◌, [], OnOk, ◌-◌, ◌<◌, ◌≤◌, false, IsTrue, ◌↔◌, SomeIff, IfOk, map};
 ghost use Rattle.std.specs.Option.{option_copied};
 ghost use Rattle.ath_sorts.specs.Sorts.{same_svar, image, apply_to, size_of, depth_of, is_small};
-ghost use Rattle.ath_sorts.specs.Substitutions.{MatchApplied, entry_of};
-ghost use Rattle.ath_sorts.specs.declared.substitution.UnifyError.TheVariants.{Memory};
+ghost use Rattle.ath_sorts.specs.Substitutions.{entry_of};
 ghost use Rattle.ath_sorts.specs.declared.sorts.Sym.{Sym};
 
 use crate::limits::{MOST_DEPTH, MOST_NODES, is_depth_within, nodes_left};
-use crate::sorts::{SVar, Sort, copied};
+use crate::sorts::{SVar, Sort, con, copied};
 use indexmap::IndexMap;
 use sqlite_items::Items;
 use std::alloc::{AllocError, Global};
 use std::marker::Model;
-use thiserror::Error;
-
-/// Why sorts aren't unified, or a substitution isn't applied.
-#[derive(Debug, Drop, Error)]
-pub enum UnifyError {
-    /// The first place such that the pairs up to it have no unifier.
-    #[error("the sorts of pair {0} can't be made equal")]
-    Clash(usize),
-    #[error("a sort is above the limits")]
-    SortTooLarge,
-    #[error("out of memory")]
-    Memory,
-}
-
-impl From<AllocError> for UnifyError {
-    ghost from_gives = { λ _ e. e ≡ Memory };
-
-    fn from(_error: AllocError) -> UnifyError {
-        UnifyError::Memory
-    }
-}
 
 /// A finite map from sort variables to sorts, with a table of the variables' first entries. A variable that isn't in it
 /// stays as it is.
@@ -142,17 +120,6 @@ impl SortSubst {
         }
     }
 
-    /// The sort with each variable replaced by what it is mapped to.
-    pub fn apply(&self, alloc: Global, sort: &Sort) -> Result<Sort, UnifyError>
-        ensures { MatchApplied (apply_to (image self.now) sort.now) result }
-    {
-        if !self.is_within_limits(sort) {
-            return Err(UnifyError::SortTooLarge);
-        }
-        let applied = self.applied(alloc, sort)?;
-        Ok(applied)
-    }
-
     /// Whether the sort is within the limits once each variable is replaced by what it is mapped to.
     pub fn is_within_limits(&self, sort: &Sort) -> bool
         ensures { result ≡ is_small (apply_to (image self.now) sort.now) }
@@ -201,13 +168,13 @@ impl SortSubst {
         }
     }
 
-    /// As `apply`, where the limits are known to be kept.
+    /// The sort with each variable replaced by what it is mapped to.
     pub fn applied(&self, alloc: Global, sort: &Sort) -> Result<Sort, AllocError>
         ensures { IfOk result (λ r. r ≡ apply_to (image self.now) sort.now) }
     {
         match sort {
             Sort::Var(v) => match self.get(*v) {
-                Some(image) => copied(alloc, image),
+                Some(image) => copied(image),
                 None => Ok(Sort::Var(*v)),
             },
             Sort::Con(name, args) => {
@@ -215,7 +182,7 @@ impl SortSubst {
                 for arg in args.as_slice() {
                     images.push(self.applied(alloc, arg)?)?;
                 }
-                Ok(Sort::Con(*name, images))
+                con(alloc, *name, images)
             }
         }
     }

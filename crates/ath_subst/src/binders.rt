@@ -71,13 +71,13 @@ fn is_met(alloc: Global, subst: &SortSubst, v: &Var, found: &[Var]) -> Result<bo
 }
 
 /// The term of a variable.
-pub fn add_var(alloc: Global, store: &mut Store, v: &Var) -> Result<TermId, AllocError>
+pub fn add_var(store: &mut Store, v: &Var) -> Result<TermId, AllocError>
     ensures grows { Grows store.old store.new }
     ensures tree { IfOk result (λ t. IsTermOf store.new t.0 (var v.now) v.now.sort) }
     ensures sorted { (sig : Signature) → IsSortedIn sig store.old → is_valid_sort sig v.now.sort ≡ true → IsSortedIn sig store.new }
 {
-    let copy = copied_var(alloc, v)?;
-    let sort = copied(alloc, &v.sort)?;
+    let copy = copied_var(v)?;
+    let sort = copied(&v.sort)?;
     let term = store.add_term(TermNode::Var(copy), sort, 1, 1)?;
     Ok(term)
 }
@@ -97,10 +97,10 @@ pub fn renamed_binder(
     ensures sorted { (sig : Signature) → IsSortedIn sig store.old → is_valid_sort sig v.now.sort ≡ true → IsSortedIn sig store.new }
 {
     let mut all = Vec::new(alloc);
-    add_copies(alloc, &mut all, used)?;
+    add_copies(&mut all, used)?;
     add_every_var(alloc, store, &mut all, body)?;
-    let variable = renewed(alloc, v, all.as_slice())?;
-    let term = add_var(alloc, store, &variable)?;
+    let variable = renewed(v, all.as_slice())?;
+    let term = add_var(store, &variable)?;
     let inner = renamed_sent(alloc, store, body, v, &variable, term)?;
     Ok(Binder {
         variable,

@@ -12,11 +12,11 @@ use ath_trees::{SentId, TermId, Var};
 use std::alloc::{AllocError, Global};
 
 /// Adds copies of variables.
-pub fn add_copies(alloc: Global, found: &mut Vec<Var>, vars: &[Var]) -> Result<(), AllocError>
+pub fn add_copies(found: &mut Vec<Var>, vars: &[Var]) -> Result<(), AllocError>
     ensures { OnOk result (found.new.items ≡ found.old.items ++ vars.now) }
 {
     for i in 0..vars.len() {
-        let copy = copied_var(alloc, &vars[i])?;
+        let copy = copied_var(&vars[i])?;
         found.push(copy)?;
     }
     Ok(())
@@ -32,7 +32,7 @@ fn add_of_term(
     ensures { OnOk result (found.new.items ≡ found.old.items ++ term_vars (term_at store.now.terms t.0)) }
 {
     let vars = store.term_vars(alloc, t)?;
-    add_copies(alloc, found, vars.as_slice())?;
+    add_copies(found, vars.as_slice())?;
     Ok(())
 }
 
@@ -64,7 +64,7 @@ pub fn add_every_var(
             Ok(())
         }
         SentNode::Quant(_, v, body) => {
-            let copy = copied_var(alloc, v)?;
+            let copy = copied_var(v)?;
             found.push(copy)?;
             add_every_var(alloc, store, found, *body)?;
             Ok(())
@@ -102,11 +102,11 @@ fn least_index(v: &Var, used: &[Var]) -> u64
 }
 
 /// The variable at the least index at which none of the used ones has its name.
-pub fn renewed(alloc: Global, v: &Var, used: &[Var]) -> Result<Var, AllocError>
+pub fn renewed(v: &Var, used: &[Var]) -> Result<Var, AllocError>
     ensures { IfOk result (λ r. r ≡ renewed v.now used.now) }
 {
     let index = least_index(v, used);
-    let sort = copied(alloc, &v.sort)?;
+    let sort = copied(&v.sort)?;
     Ok(Var {
         name: v.name,
         index,

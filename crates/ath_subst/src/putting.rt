@@ -23,7 +23,7 @@ fn copied_term(alloc: Global, node: &TermNode) -> Result<TermNode, AllocError>
 {
     match node {
         TermNode::Var(v) => {
-            let copy = copied_var(alloc, v)?;
+            let copy = copied_var(v)?;
             Ok(TermNode::Var(copy))
         }
         TermNode::App(f, sorts, args) => {
@@ -70,7 +70,7 @@ pub fn put_term(
             }
             let nodes = 1 + list_size(store, parts.as_slice());
             let levels = 1 + list_depth(store, parts.as_slice());
-            let sort = copied(alloc, store.sort_of(t))?;
+            let sort = copied(store.sort_of(t))?;
             let whole = TermNode::App(f, sorts, parts);
             let term = keep_term(store, t, whole, sort, nodes, levels)?;
             Ok(term)

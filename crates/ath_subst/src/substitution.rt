@@ -125,13 +125,13 @@ pub fn apply_sorts(
 }
 
 /// Adds a copy of a variable that isn't x.
-fn add_other(alloc: Global, found: &mut Vec<Var>, x: &Var, w: &Var) -> Result<(), AllocError>
+fn add_other(found: &mut Vec<Var>, x: &Var, w: &Var) -> Result<(), AllocError>
     ensures { OnOk result (found.new.items ≡ found.old.items ++ (if same_var x.now w.now then [] else w.now ∷ [])) }
 {
     if is_same_var(x, w) {
         return Ok(());
     }
-    let copy = copied_var(alloc, w)?;
+    let copy = copied_var(w)?;
     found.push(copy)?;
     Ok(())
 }
@@ -142,7 +142,7 @@ fn others(alloc: Global, x: &Var, all: &[Var]) -> Result<Vec<Var>, AllocError>
 {
     let mut found = Vec::new(alloc);
     for i in 0..all.len() {
-        add_other(alloc, &mut found, x, &all[i])?;
+        add_other(&mut found, x, &all[i])?;
     }
     Ok(found)
 }
@@ -155,7 +155,7 @@ fn closing(alloc: Global, store: &Store, x: &Var, p: SentId) -> Result<Var, Allo
     let mut all = Vec::new(alloc);
     add_every_var(alloc, store, &mut all, p)?;
     let rest = others(alloc, x, all.as_slice())?;
-    let variable = renewed(alloc, x, rest.as_slice())?;
+    let variable = renewed(x, rest.as_slice())?;
     Ok(variable)
 }
 
@@ -178,7 +178,7 @@ pub fn close_over(
     };
     check_counts(counts)?;
     let variable = closing(alloc, store, x, p)?;
-    let term = add_var(alloc, store, &variable)?;
+    let term = add_var(store, &variable)?;
     let used = store.term_vars(alloc, term)?;
     let body = put_sent(alloc, store, p, x, term, used.as_slice())?;
     let node = SentNode::Quant(q, variable, body);

@@ -4,7 +4,7 @@ use Rattle.std.specs.Prelude.{find}
 use Rattle.std.specs.List.{list_any}
 use Rattle.std.specs.Map.{lookup}
 use Rattle.ath_sorts.specs.declared.sorts.Sort.{Sort}
-use Rattle.ath_sorts.specs.Order.{same_sort}
+use Rattle.ath_sorts.specs.Equality.{same_sort}
 use Rattle.ath_sorts.proofs.Bools.{and_parts, same_num, num_same, turned, true-not-false}
 use Rattle.ath_sorts.proofs.SameSorts.{same_sort-true}
 use Rattle.ath_sorts.proofs.Gets.{some-inj, some-not-none}

@@ -18,7 +18,8 @@ fn is_same_var(v: &Var, w: &Var) -> bool
     is_same(&v.sort, &w.sort)
 }
 
-fn are_same_sorts(some: &[Sort], others: &[Sort]) -> bool
+/// Whether two lists of sorts are one.
+pub fn are_same_sorts(some: &[Sort], others: &[Sort]) -> bool
     ensures { IsTrue result ↔ (some.now ≡ others.now) }
 {
     if some.len() != others.len() {

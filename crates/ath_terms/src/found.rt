@@ -3,7 +3,7 @@
 ghost use Rattle.std.specs.Prelude.{◌≡◌, ◌++◌, ◌∷◌, [], find, IfOk, OnOk};
 ghost use Rattle.std.specs.List.{list_any};
 ghost use Rattle.std.specs.Option.{option_copied};
-ghost use Rattle.ath_sorts.specs.Order.{same_sort};
+ghost use Rattle.ath_sorts.specs.Equality.{same_sort};
 ghost use Rattle.ath_trees.specs.Variables.{is_namesake, same_var, with_var};
 ghost use Rattle.ath_terms.specs.Found.{var_key, same_var_key};
 
@@ -47,10 +47,10 @@ pub fn is_found(found: &[Var], v: &Var) -> bool
 }
 
 /// The variable again.
-pub fn copied_var(alloc: Global, v: &Var) -> Result<Var, AllocError>
+pub fn copied_var(v: &Var) -> Result<Var, AllocError>
     ensures { IfOk result (λ w. w ≡ v.now) }
 {
-    let sort = copied(alloc, &v.sort)?;
+    let sort = copied(&v.sort)?;
     Ok(Var {
         name: v.name,
         index: v.index,
@@ -149,13 +149,13 @@ impl FoundVars {
     }
 
     /// Adds a variable where it isn't among them.
-    pub fn add(&mut self, alloc: Global, v: &Var) -> Result<(), AllocError>
+    pub fn add(&mut self, v: &Var) -> Result<(), AllocError>
         ensures { OnOk result (self.new ≡ with_var self.old v.now) }
     {
         if self.has(v) {
             return Ok(());
         }
-        let copy = copied_var(alloc, v)?;
+        let copy = copied_var(v)?;
         self.push(copy)?;
         Ok(())
     }

@@ -7,7 +7,7 @@ ghost use Rattle.ath_terms.specs.Fresh.{is_taken, IsFreshIndex};
 use ath_sorts::{SVar, Sym};
 
 /// The next index of a fresh variable, and the number of the next sort variable that is made.
-#[derive(Clone, Copy, Debug, PartialEq, Eq)]
+#[derive(Clone, Copy)]
 pub struct Fresh {
     pub var: u64,
     pub sort: u64,
@@ -48,7 +48,12 @@ impl Fresh {
 fn is_taken(taken: &[(Sym, u64)], name: Sym, index: u64) -> bool
     ensures { result ≡ is_taken taken.now name index }
 {
-    taken.iter().any(|e| e.0.0 == name.0 && e.1 == index)
+    for e in taken {
+        if e.0.0 == name.0 && e.1 == index {
+            return true;
+        }
+    }
+    false
 }
 
 fn free_index(counter: u64, name: Sym, taken: &[(Sym, u64)]) -> u64

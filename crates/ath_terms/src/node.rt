@@ -5,14 +5,14 @@ use ath_trees::{Conn, Quant, SentId, TermId, Var};
 use sqlite_items::Items;
 
 /// A term: a variable, or a symbol with its sort arguments and its arguments.
-#[derive(Debug, Drop)]
+#[derive(Drop)]
 pub enum TermNode {
     Var(Var),
     App(Sym, Items<Sort>, Items<TermId>),
 }
 
 /// A sentence: an atom (a term of sort Boolean), an equation, a connective, or a quantifier over a variable.
-#[derive(Debug, Drop)]
+#[derive(Drop)]
 pub enum SentNode {
     Atom(TermId),
     Eq(TermId, TermId),

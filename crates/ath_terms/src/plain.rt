@@ -31,7 +31,7 @@ pub fn copied_sorts(alloc: Global, sorts: &[Sort]) -> Result<Items<Sort>, AllocE
 {
     let mut copies = Items::new(alloc);
     for sort in sorts {
-        copies.push(copied(alloc, sort)?)?;
+        copies.push(copied(sort)?)?;
     }
     Ok(copies)
 }
@@ -82,7 +82,7 @@ fn add_plain(
     let levels = 1 + list_depth(store, args);
     let copies = copied_sorts(alloc, sorts)?;
     let ids = Items::from_slice(alloc, args)?;
-    let whole = copied(alloc, sort)?;
+    let whole = copied(sort)?;
     let term = store.add_term(TermNode::App(f, copies, ids), whole, nodes, levels)?;
     Ok(term)
 }
@@ -139,7 +139,7 @@ pub fn copied_node(alloc: Global, node: &SentNode) -> Result<SentNode, AllocErro
             Ok(SentNode::Conn(*c, parts))
         }
         SentNode::Quant(k, v, body) => {
-            let bound = copied_var(alloc, v)?;
+            let bound = copied_var(v)?;
             Ok(SentNode::Quant(*k, bound, *body))
         }
     }
@@ -147,13 +147,13 @@ pub fn copied_node(alloc: Global, node: &SentNode) -> Result<SentNode, AllocErro
 
 impl Store {
     /// The term of a variable.
-    pub fn var(&mut self, alloc: Global, v: &Var) -> Result<TermId, BuildError>
+    pub fn var(&mut self, v: &Var) -> Result<TermId, BuildError>
         ensures grows { Grows self.old self.new }
         ensures built { IsPlainTerm self.new (var v.now) v.now.sort result }
         ensures sorted { (sig : Signature) → IsSortedIn sig self.old → HasSort sig (var v.now) v.now.sort → IsSortedIn sig self.new }
     {
-        let copy = copied_var(alloc, v)?;
-        let sort = copied(alloc, &v.sort)?;
+        let copy = copied_var(v)?;
+        let sort = copied(&v.sort)?;
         let term = self.add_term(TermNode::Var(copy), sort, 1, 1)?;
         Ok(term)
     }

@@ -12,50 +12,40 @@ use ath_trees::{SentId, TermId, Var};
 use std::alloc::{AllocError, Global};
 
 /// Adds the variables of a term to those found before.
-pub fn add_term_vars(
-    alloc: Global,
-    store: &Store,
-    found: &mut FoundVars,
-    t: TermId,
-) -> Result<(), AllocError>
+pub fn add_term_vars(store: &Store, found: &mut FoundVars, t: TermId) -> Result<(), AllocError>
     requires { t.0 < length store.now.terms }
     ensures { OnOk result (found.new ≡ with_term found.old (term_at store.now.terms t.0)) }
 {
     match store.term(t) {
         TermNode::Var(v) => {
-            found.add(alloc, v)?;
+            found.add(v)?;
             Ok(())
         }
         TermNode::App(_, _, args) => {
             let parts = args.as_slice();
             for i in 0..parts.len() {
-                add_term_vars(alloc, store, found, parts[i])?;
+                add_term_vars(store, found, parts[i])?;
             }
             Ok(())
         }
     }
 }
 
-fn add_other(alloc: Global, found: &mut FoundVars, w: &Var, v: &Var) -> Result<(), AllocError>
+fn add_other(found: &mut FoundVars, w: &Var, v: &Var) -> Result<(), AllocError>
     ensures { OnOk result (found.new ≡ (if same_var v.now w.now then found.old else with_var found.old w.now)) }
 {
     if is_same_var(v, w) {
         return Ok(());
     }
-    found.add(alloc, w)
+    found.add(w)
 }
 
 /// Adds those of the variables that aren't v.
-fn add_others(
-    alloc: Global,
-    found: &mut FoundVars,
-    inner: &[Var],
-    v: &Var,
-) -> Result<(), AllocError>
+fn add_others(found: &mut FoundVars, inner: &[Var], v: &Var) -> Result<(), AllocError>
     ensures { OnOk result (found.new ≡ with_vars found.old (filter (λ w. not (same_var v.now w)) inner.now)) }
 {
     for i in 0..inner.len() {
-        add_other(alloc, found, &inner[i], v)?;
+        add_other(found, &inner[i], v)?;
     }
     Ok(())
 }
@@ -72,12 +62,12 @@ pub fn add_sent_vars(
 {
     match store.sent(p) {
         SentNode::Atom(t) => {
-            add_term_vars(alloc, store, found, *t)?;
+            add_term_vars(store, found, *t)?;
             Ok(())
         }
         SentNode::Eq(s, t) => {
-            add_term_vars(alloc, store, found, *s)?;
-            add_term_vars(alloc, store, found, *t)?;
+            add_term_vars(store, found, *s)?;
+            add_term_vars(store, found, *t)?;
             Ok(())
         }
         SentNode::Conn(_, ids) => {
@@ -90,7 +80,7 @@ pub fn add_sent_vars(
         SentNode::Quant(_, v, body) => {
             let mut inner = FoundVars::new(alloc);
             add_sent_vars(alloc, store, &mut inner, *body)?;
-            add_others(alloc, found, inner.as_slice(), v)?;
+            add_others(found, inner.as_slice(), v)?;
             Ok(())
         }
     }
@@ -103,7 +93,7 @@ impl Store {
         ensures { IfOk result (λ found. found.items ≡ term_vars (term_at self.now.terms t.0)) }
     {
         let mut found = FoundVars::new(alloc);
-        add_term_vars(alloc, self, &mut found, t)?;
+        add_term_vars(self, &mut found, t)?;
         Ok(found.into_list())
     }
 

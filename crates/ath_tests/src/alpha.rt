@@ -4,7 +4,7 @@ ghost use Rattle.std.specs.Prelude.{◌<◌, length, IfOk};
 ghost use Rattle.ath_terms.specs.Trees.{Grows};
 
 use ath_alpha::{alpha_key, is_alpha_equal, sort_instance};
-use ath_sorts::sorts::BOOLEAN;
+use ath_sorts::sorts::{BOOLEAN, con};
 use ath_sorts::{SVar, Sort, Sym};
 use ath_terms::{SentNode, Store};
 use ath_trees::{Quant, SentId, Var};
@@ -19,16 +19,17 @@ const Y: Sym = Sym(151);
 const Z: Sym = Sym(152);
 
 /// The sort of a variable: Boolean has 0, and a sort variable its number.
-fn named(alloc: Global, name: Sym, sort: u64) -> Var {
-    Var {
+fn named(alloc: Global, name: Sym, sort: u64) -> Result<Var, AllocError> {
+    let sort = if sort == 0 {
+        con(alloc, BOOLEAN, Items::new(alloc))?
+    } else {
+        Sort::Var(SVar::Made(sort))
+    };
+    Ok(Var {
         name,
         index: 0,
-        sort: if sort == 0 {
-            Sort::Con(BOOLEAN, Items::new(alloc))
-        } else {
-            Sort::Var(SVar::Made(sort))
-        },
-    }
+        sort,
+    })
 }
 
 /// The equation of two variables of these names and sorts, quantified over a third.
@@ -43,10 +44,10 @@ fn quantified(
     ensures grows { Grows store.old store.new }
     ensures inside { IfOk result (λ p. p.0 < length store.new.sents) }
 {
-    let first = store.var(alloc, &named(alloc, left.0, left.1))?;
-    let second = store.var(alloc, &named(alloc, right.0, right.1))?;
+    let first = store.var(&named(alloc, left.0, left.1)?)?;
+    let second = store.var(&named(alloc, right.0, right.1)?)?;
     let body = store.raw_sent(alloc, &SentNode::Eq(first, second))?;
-    let variable = named(alloc, bound.0, bound.1);
+    let variable = named(alloc, bound.0, bound.1)?;
     let whole = store.raw_sent(alloc, &SentNode::Quant(quant, variable, body))?;
     Ok(whole)
 }

@@ -1,26 +1,27 @@
 use ath_base::{Base, Origin};
-use ath_sorts::{Sort, Sym};
+use ath_sorts::Sym;
+use ath_sorts::sorts::con;
 use ath_terms::{SentNode, Store};
 use ath_trees::Var;
 use sqlite_items::Items;
-use std::alloc::Global;
+use std::alloc::{AllocError, Global};
 use std::process::Abort;
 use std::test::Fail;
 
-fn variable(alloc: Global, name: Sym) -> Var {
-    Var {
+fn variable(alloc: Global, name: Sym) -> Result<Var, AllocError> {
+    Ok(Var {
         name,
         index: 0,
-        sort: Sort::Con(Sym(0), Items::new(alloc)),
-    }
+        sort: con(alloc, Sym(0), Items::new(alloc))?,
+    })
 }
 
 #[test]
 fn the_newest_entry_is_answered(rt: HostRuntime) -> Result<(), Fail> {
     let alloc = rt.alloc();
     let mut store = Store::new(alloc);
-    let x = store.var(alloc, &variable(alloc, Sym(150)))?;
-    let y = store.var(alloc, &variable(alloc, Sym(151)))?;
+    let x = store.var(&variable(alloc, Sym(150))?)?;
+    let y = store.var(&variable(alloc, Sym(151))?)?;
     let p = store.raw_sent(alloc, &SentNode::Eq(x, x))?;
     let q = store.raw_sent(alloc, &SentNode::Eq(x, x))?;
     let r = store.raw_sent(alloc, &SentNode::Eq(x, y))?;

@@ -5,12 +5,12 @@ ghost use Rattle.ath_trees.specs.Tree.{var};
 ghost use Rattle.ath_terms.specs.Trees.{Grows, IsTerm};
 
 use ath_construction::{app, ascribe, atom, connective, equation, quantify};
-use ath_sorts::sorts::{BOOLEAN, is_same};
+use ath_sorts::sorts::{BOOLEAN, con, is_same};
 use ath_sorts::{SVar, Signature, Sort, Sym};
 use ath_terms::{BuildError, Fresh, SentNode, Store, TermNode};
 use ath_trees::{Conn, Quant, SentId, TermId, Var};
 use sqlite_items::Items;
-use std::alloc::Global;
+use std::alloc::{AllocError, Global};
 use std::test::Fail;
 
 const X: Sym = Sym(150);
@@ -31,12 +31,12 @@ fn var_of(name: Sym, sort: Sort) -> Var
     }
 }
 
-fn variable(alloc: Global, store: &mut Store, name: Sym, sort: Sort) -> Result<TermId, Fail>
+fn variable(store: &mut Store, name: Sym, sort: Sort) -> Result<TermId, Fail>
     ensures grows { Grows store.old store.new }
     ensures tree { IfOk result (λ t. IsTerm store.new t.0 (var (record { name = name; index = 0; sort = sort }))) }
 {
     let v = var_of(name, sort);
-    let term = store.var(alloc, &v)?;
+    let term = store.var(&v)?;
     Ok(term)
 }
 
@@ -50,8 +50,8 @@ fn reflexive(alloc: Global, store: &mut Store, t: TermId) -> Result<SentId, Fail
     Ok(sent)
 }
 
-fn constant(alloc: Global, name: Sym) -> Sort {
-    Sort::Con(name, Items::new(alloc))
+fn constant(alloc: Global, name: Sym) -> Result<Sort, AllocError> {
+    con(alloc, name, Items::new(alloc))
 }
 
 #[test]
@@ -59,8 +59,8 @@ fn an_equation_makes_sorts_one(rt: HostRuntime) -> Result<(), Fail> {
     let alloc = rt.alloc();
     let mut store = Store::new(alloc);
     let made = SVar::Made(1);
-    let s = variable(alloc, &mut store, X, Sort::Var(made))?;
-    let t = variable(alloc, &mut store, N, constant(alloc, N))?;
+    let s = variable(&mut store, X, Sort::Var(made))?;
+    let t = variable(&mut store, N, constant(alloc, N)?)?;
     let equation = equation(alloc, &mut store, s, t)?;
     let SentNode::Eq(left, right) = store.sent(equation) else {
         return Err("no equation".into());
@@ -74,11 +74,13 @@ fn an_equation_makes_sorts_one(rt: HostRuntime) -> Result<(), Fail> {
 fn refusals_show_what_was_listed(rt: HostRuntime) -> Result<(), Fail> {
     let alloc = rt.alloc();
     let mut store = Store::new(alloc);
-    let t = variable(alloc, &mut store, X, constant(alloc, N))?;
-    let u = variable(alloc, &mut store, N, constant(alloc, BOOLEAN))?;
+    let t = variable(&mut store, X, constant(alloc, N)?)?;
+    let u = variable(&mut store, N, constant(alloc, BOOLEAN)?)?;
     match equation(alloc, &mut store, t, u) {
         Err(BuildError::SortClash(a, b)) => {
-            assert!(rt; is_same(&a, &constant(alloc, N)) && is_same(&b, &constant(alloc, BOOLEAN)));
+            assert!(rt;
+                is_same(&a, &constant(alloc, N)?) && is_same(&b, &constant(alloc, BOOLEAN)?)
+            );
         }
         _ => return Err("no clash".into()),
     }
@@ -97,8 +99,8 @@ fn signature(alloc: Global) -> Result<Signature, Fail> {
     let mut sig = Signature::new(alloc)?;
     sig.add_domain(alloc, N, 0)?;
     let mut args = Vec::new(alloc);
-    args.push(constant(alloc, N))?;
-    sig.add_symbol(alloc, F, &Vec::new(alloc), &args, &constant(alloc, N))?;
+    args.push(constant(alloc, N)?)?;
+    sig.add_symbol(alloc, F, &Vec::new(alloc), &args, &constant(alloc, N)?)?;
     let mut params = Vec::new(alloc);
     params.push(X)?;
     let mut any = Vec::new(alloc);
@@ -134,9 +136,9 @@ fn an_application_has_the_declared_sort(rt: HostRuntime) -> Result<(), Fail> {
     let alloc = rt.alloc();
     let sig = signature(alloc)?;
     let mut store = Store::new(alloc);
-    let x = variable(alloc, &mut store, X, Sort::Var(SVar::Made(1)))?;
+    let x = variable(&mut store, X, Sort::Var(SVar::Made(1)))?;
     let made = applied(alloc, &mut store, &sig, F, x)?;
-    assert!(rt; is_same(store.sort_of(made), &constant(alloc, N)));
+    assert!(rt; is_same(store.sort_of(made), &constant(alloc, N)?));
     assert_eq!(rt; store.size(made), 2);
     assert_eq!(rt; store.depth(made), 2);
     let TermNode::App(f, _, args) = store.term(made) else {
@@ -149,7 +151,7 @@ fn an_application_has_the_declared_sort(rt: HostRuntime) -> Result<(), Fail> {
     if vars.len() != 1 {
         return Err("not one variable".into());
     }
-    assert!(rt; is_same(&vars[0].sort, &constant(alloc, N)));
+    assert!(rt; is_same(&vars[0].sort, &constant(alloc, N)?));
     Ok(())
 }
 
@@ -158,11 +160,11 @@ fn a_part_that_stays_as_it_is_keeps_its_number(rt: HostRuntime) -> Result<(), Fa
     let alloc = rt.alloc();
     let sig = signature(alloc)?;
     let mut store = Store::new(alloc);
-    let x = variable(alloc, &mut store, X, constant(alloc, N))?;
-    let same = ascribe(alloc, &mut store, x, &constant(alloc, N))?;
+    let x = variable(&mut store, X, constant(alloc, N)?)?;
+    let same = ascribe(alloc, &mut store, x, &constant(alloc, N)?)?;
     assert_eq!(rt; same, x);
     let made = applied(alloc, &mut store, &sig, G, x)?;
-    assert!(rt; is_same(store.sort_of(made), &constant(alloc, N)));
+    assert!(rt; is_same(store.sort_of(made), &constant(alloc, N)?));
     let TermNode::App(_, _, args) = store.term(made) else {
         return Err("no application".into());
     };
@@ -178,9 +180,9 @@ fn a_part_that_stays_as_it_is_keeps_its_number(rt: HostRuntime) -> Result<(), Fa
 fn an_ascription_makes_the_sort(rt: HostRuntime) -> Result<(), Fail> {
     let alloc = rt.alloc();
     let mut store = Store::new(alloc);
-    let x = variable(alloc, &mut store, X, Sort::Var(SVar::Made(1)))?;
-    let made = ascribe(alloc, &mut store, x, &constant(alloc, N))?;
-    assert!(rt; is_same(store.sort_of(made), &constant(alloc, N)));
+    let x = variable(&mut store, X, Sort::Var(SVar::Made(1)))?;
+    let made = ascribe(alloc, &mut store, x, &constant(alloc, N)?)?;
+    assert!(rt; is_same(store.sort_of(made), &constant(alloc, N)?));
     assert!(rt; is_same(store.sort_of(x), &Sort::Var(SVar::Made(1))));
     let TermNode::Var(v) = store.term(made) else {
         return Err("no variable".into());
@@ -193,12 +195,12 @@ fn an_ascription_makes_the_sort(rt: HostRuntime) -> Result<(), Fail> {
 fn an_atom_is_boolean(rt: HostRuntime) -> Result<(), Fail> {
     let alloc = rt.alloc();
     let mut store = Store::new(alloc);
-    let x = variable(alloc, &mut store, X, Sort::Var(SVar::Made(1)))?;
+    let x = variable(&mut store, X, Sort::Var(SVar::Made(1)))?;
     let sent = atom(alloc, &mut store, x)?;
     let SentNode::Atom(t) = store.sent(sent) else {
         return Err("no atom".into());
     };
-    assert!(rt; is_same(store.sort_of(*t), &constant(alloc, BOOLEAN)));
+    assert!(rt; is_same(store.sort_of(*t), &constant(alloc, BOOLEAN)?));
     Ok(())
 }
 
@@ -206,7 +208,7 @@ fn an_atom_is_boolean(rt: HostRuntime) -> Result<(), Fail> {
 fn a_quantifier_binds_what_has_its_name(rt: HostRuntime) -> Result<(), Fail> {
     let alloc = rt.alloc();
     let mut store = Store::new(alloc);
-    let x = variable(alloc, &mut store, X, constant(alloc, N))?;
+    let x = variable(&mut store, X, constant(alloc, N)?)?;
     let body = reflexive(alloc, &mut store, x)?;
     let v = var_of(X, Sort::Var(SVar::Made(1)));
     let sent = quantify(alloc, &mut store, Quant::Exists, &v, body)?;
@@ -215,7 +217,7 @@ fn a_quantifier_binds_what_has_its_name(rt: HostRuntime) -> Result<(), Fail> {
     };
     assert_eq!(rt; *q, Quant::Exists);
     assert_eq!(rt; *inner, body);
-    assert!(rt; is_same(&bound.sort, &constant(alloc, N)));
+    assert!(rt; is_same(&bound.sort, &constant(alloc, N)?));
     let found = store.free_vars(alloc, sent)?;
     assert_eq!(rt; found.len(), 0);
     Ok(())
@@ -225,11 +227,11 @@ fn a_quantifier_binds_what_has_its_name(rt: HostRuntime) -> Result<(), Fail> {
 fn a_binder_is_renamed_where_it_would_bind_another(rt: HostRuntime) -> Result<(), Fail> {
     let alloc = rt.alloc();
     let mut store = Store::new(alloc);
-    let x = variable(alloc, &mut store, X, Sort::Var(SVar::Made(1)))?;
+    let x = variable(&mut store, X, Sort::Var(SVar::Made(1)))?;
     let body = reflexive(alloc, &mut store, x)?;
-    let v = var_of(X, constant(alloc, N));
+    let v = var_of(X, constant(alloc, N)?);
     let all = store.raw_sent(alloc, &SentNode::Quant(Quant::Forall, v, body))?;
-    let y = variable(alloc, &mut store, X, constant(alloc, N))?;
+    let y = variable(&mut store, X, constant(alloc, N)?)?;
     let other = reflexive(alloc, &mut store, y)?;
     let mut parts = Vec::new(alloc);
     parts.push(all)?;

@@ -6,6 +6,7 @@ ghost use Rattle.ath_print.specs.Stands.{IsEventIn};
 use ath_env::Value;
 use ath_names::Names;
 use ath_print::{Event, Fault, FaultArg, FaultKind, line};
+use ath_sorts::sorts::con;
 use ath_sorts::{SVar, Signature, Sort, Sym};
 use ath_syntax::Pos;
 use ath_terms::Store;
@@ -119,7 +120,7 @@ fn pair(alloc: Global, first: SVar, second: SVar) -> Result<Sort, AllocError> {
     let mut args = Items::new(alloc);
     args.push(Sort::Var(first))?;
     args.push(Sort::Var(second))?;
-    Ok(Sort::Con(B, args))
+    con(alloc, B, args)
 }
 
 #[test]
@@ -159,7 +160,7 @@ fn variable(
         index,
         sort: Sort::Var(sort),
     };
-    let t = store.var(alloc, &v)?;
+    let t = store.var(&v)?;
     Ok(t)
 }
 

@@ -40,7 +40,7 @@ fn variable(
     ensures inside { IfOk result (λ t. t.0 < length store.new.terms) }
     ensures sort { IfOk result (λ t. sort_at store.new.sorts t.0 ≡ sort_var (Made number)) }
 {
-    let term = store.var(alloc, &named(name, index, number))?;
+    let term = store.var(&named(name, index, number))?;
     Ok(term)
 }
 

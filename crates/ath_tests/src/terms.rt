@@ -4,12 +4,12 @@ ghost use Rattle.std.specs.Prelude.{◌<◌, length, IfOk};
 ghost use Rattle.ath_trees.specs.Tree.{var};
 ghost use Rattle.ath_terms.specs.Trees.{Grows, IsTerm};
 
-use ath_sorts::sorts::BOOLEAN;
+use ath_sorts::sorts::{BOOLEAN, con};
 use ath_sorts::{Sort, Sym};
 use ath_terms::{SentNode, Store};
 use ath_trees::{Binary, Conn, TermId, Var};
 use sqlite_items::Items;
-use std::alloc::Global;
+use std::alloc::{AllocError, Global};
 use std::test::Fail;
 
 const X: Sym = Sym(150);
@@ -18,7 +18,7 @@ const N: Sym = Sym(151);
 
 const F: Sym = Sym(152);
 
-fn variable(alloc: Global, store: &mut Store, name: Sym, sort: Sort) -> Result<TermId, Fail>
+fn variable(store: &mut Store, name: Sym, sort: Sort) -> Result<TermId, Fail>
     ensures grows { Grows store.old store.new }
     ensures tree { IfOk result (λ t. IsTerm store.new t.0 (var (record { name = name; index = 0; sort = sort }))) }
 {
@@ -27,12 +27,12 @@ fn variable(alloc: Global, store: &mut Store, name: Sym, sort: Sort) -> Result<T
         index: 0,
         sort,
     };
-    let term = store.var(alloc, &v)?;
+    let term = store.var(&v)?;
     Ok(term)
 }
 
-fn constant(alloc: Global, name: Sym) -> Sort {
-    Sort::Con(name, Items::new(alloc))
+fn constant(alloc: Global, name: Sym) -> Result<Sort, AllocError> {
+    con(alloc, name, Items::new(alloc))
 }
 
 /// The application of f to two terms, as it is.
@@ -45,7 +45,7 @@ fn plain_pair(alloc: Global, store: &mut Store, x: TermId, y: TermId) -> Result<
     let mut args = Vec::new(alloc);
     args.push(x)?;
     args.push(y)?;
-    let own = constant(alloc, BOOLEAN);
+    let own = constant(alloc, BOOLEAN)?;
     let made = store.raw_app(alloc, F, &Vec::new(alloc), &args, &own)?;
     Ok(made)
 }
@@ -63,8 +63,8 @@ fn connectives_of_two_parts(rt: HostRuntime) -> Result<(), Fail> {
 fn variables_are_found_in_order(rt: HostRuntime) -> Result<(), Fail> {
     let alloc = rt.alloc();
     let mut store = Store::new(alloc);
-    let x = variable(alloc, &mut store, X, constant(alloc, N))?;
-    let y = variable(alloc, &mut store, N, constant(alloc, N))?;
+    let x = variable(&mut store, X, constant(alloc, N)?)?;
+    let y = variable(&mut store, N, constant(alloc, N)?)?;
     let inner = plain_pair(alloc, &mut store, y, x)?;
     let whole = plain_pair(alloc, &mut store, inner, y)?;
     let found = store.term_vars(alloc, whole)?;

@@ -3,7 +3,8 @@ ghost use Rattle.ath_env.specs.Stands.{IsIn};
 
 use ath_env::{Value, look_up, sentence, value_of};
 use ath_names::Names;
-use ath_sorts::{Signature, Sort, Sym};
+use ath_sorts::sorts::con;
+use ath_sorts::{Signature, Sym};
 use ath_terms::Store;
 use ath_trees::Conn;
 use sqlite_items::Items;
@@ -51,7 +52,7 @@ fn constant(
     ensures { IfOk result (λ value. IsIn store.new value) }
 {
     let alloc = rt.alloc();
-    let own = Sort::Con(Sym(sort), Items::new(alloc));
+    let own = con(alloc, Sym(sort), Items::new(alloc))?;
     let t = store.raw_app(alloc, Sym(name), &Vec::new(alloc), &Vec::new(alloc), &own)?;
     Ok(Value::Term(t))
 }

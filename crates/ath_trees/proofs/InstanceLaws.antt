@@ -12,7 +12,7 @@ use Rattle.ath_sorts.specs.declared.sorts.Sort.TheFolds.{fold-roll-Sort}
 use Rattle.ath_sorts.specs.Matching.{Agrees}
 use Rattle.ath_sorts.specs.Sorts.{same_svar, image, apply_to}
 use Rattle.ath_sorts.specs.Substitutions.{entry_of}
-use Rattle.ath_sorts.specs.Order.{same_sort}
+use Rattle.ath_sorts.specs.Equality.{same_sort}
 use Rattle.ath_sorts.proofs.Bools.{and_parts, same_num, num_same}
 use Rattle.ath_sorts.proofs.Gets.{cons-head, cons-tail, some-inj}
 use Rattle.ath_sorts.proofs.MatchingLaws.{extends-var}

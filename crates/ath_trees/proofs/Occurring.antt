@@ -1,7 +1,7 @@
 -- The tests of variables, and of lists of them.
 use Rattle.std.proofs.Common.{◌≡◌, Bool, true, false, not, ◌||◌, ◌==◌, List, [], ◌∷◌, ◌++◌, refl, sym, ◌∙◌, ap}
 use Rattle.std.specs.Prelude.{filter}
-use Rattle.ath_sorts.specs.Order.{same_sort}
+use Rattle.ath_sorts.specs.Equality.{same_sort}
 use Rattle.ath_sorts.proofs.Bools.{and_parts, or_parts, or-false, turned, same_num, num_same}
 use Rattle.ath_sorts.proofs.SameSorts.{same_sort-refl, same_sort-true}
 use Rattle.ath_trees.specs.declared.node.Var.{Var}

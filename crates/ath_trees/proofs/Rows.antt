@@ -3,7 +3,7 @@ use Rattle.std.proofs.Common.{◌≡◌, true, false, [], ◌∷◌, Some, None,
 use Rattle.ath_sorts.specs.declared.sorts.SVar.TheVariants.{Made}
 use Rattle.ath_sorts.specs.declared.sorts.Sort.{Sort, Var as sort_var}
 use Rattle.ath_sorts.specs.Sorts.{image}
-use Rattle.ath_sorts.specs.Order.{same_sort}
+use Rattle.ath_sorts.specs.Equality.{same_sort}
 use Rattle.ath_sorts.proofs.SameSorts.{same_sort-refl, same_sort-true}
 use Rattle.ath_sorts.proofs.SortLaws.{apply-var, Var-inj}
 use Rattle.ath_trees.specs.declared.node.Var.{Var}

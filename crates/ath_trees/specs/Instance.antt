@@ -10,7 +10,7 @@ use Rattle.ath_sorts.specs.declared.sorts.Sort.TheFolds.{fold-Sort}
 use Rattle.ath_sorts.specs.Matching.{Agrees}
 use Rattle.ath_sorts.specs.Sorts.{image}
 use Rattle.ath_sorts.specs.Substitutions.{entry_of}
-use Rattle.ath_sorts.specs.Order.{same_sort}
+use Rattle.ath_sorts.specs.Equality.{same_sort}
 use Rattle.ath_trees.specs.declared.node.Binary.{Binary}
 use Rattle.ath_trees.specs.declared.node.Binary.TheVariants.{And, Or, If, Iff}
 use Rattle.ath_trees.specs.declared.node.Quant.{Quant}

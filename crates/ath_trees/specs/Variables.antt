@@ -2,7 +2,7 @@
 -- sort are two.
 use Rattle.std.specs.Prelude.{Bool, ◌&&◌, ◌==◌, not, List, [], ◌∷◌, ◌++◌, filter, if◌then◌else◌}
 use Rattle.std.specs.List.{list_any}
-use Rattle.ath_sorts.specs.Order.{same_sort}
+use Rattle.ath_sorts.specs.Equality.{same_sort}
 use Rattle.ath_trees.specs.declared.node.Var.{Var}
 use Rattle.ath_trees.specs.Tree.{Term, Terms, var, app, none, more, Sent, atom, equal, negated, joined, bound}
 

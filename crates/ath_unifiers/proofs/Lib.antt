@@ -1,3 +1,17 @@
+pub mod VariableLaws
+pub mod UnifierLaws
+pub mod GraphValues
+pub mod GraphTrees
+pub mod GraphCycles
+pub mod GraphJoins
+pub mod GraphUnions
+pub mod Partitions
+pub mod PartitionJoins
+pub mod NodePlaces
+pub mod GraphGrowth
+pub mod GraphSizes
+pub mod GraphSolutions
+pub mod GraphPairs
 pub mod Compared
 pub mod Reading
 pub mod Searching

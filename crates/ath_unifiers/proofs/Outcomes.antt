@@ -4,17 +4,17 @@ use Rattle.std.proofs.lemmas.Grind.{common_steps}
 use Rattle.std.specs.List.{list_all}
 use Rattle.ath_sorts.specs.declared.sorts.SVar.{SVar}
 use Rattle.ath_sorts.specs.declared.sorts.Sort.{Sort, Var}
-use Rattle.ath_sorts.specs.declared.substitution.UnifyError.{UnifyError}
-use Rattle.ath_sorts.specs.declared.substitution.UnifyError.TheVariants.{Clash, SortTooLarge, Memory}
+use Rattle.ath_unifiers.specs.declared.unification.UnifyError.{UnifyError}
+use Rattle.ath_unifiers.specs.declared.unification.UnifyError.TheVariants.{Clash, SortTooLarge, Memory}
 use Rattle.ath_sorts.specs.Sorts.{is_small, same_svar, image}
 use Rattle.ath_sorts.specs.Substitutions.{entry_of}
-use Rattle.ath_sorts.specs.Unifiers.{IsLeastUnifier, IsClash, MatchUnified}
-use Rattle.ath_sorts.specs.Order.{precedes, vars_read}
+use Rattle.ath_unifiers.specs.Unifiers.{IsLeastUnifier, IsClash, MatchUnified}
+use Rattle.ath_unifiers.specs.Order.{precedes, vars_read}
 use Rattle.ath_sorts.proofs.Bools.{true-not-false, and_parts, bool_cases}
 use Rattle.ath_sorts.proofs.Gets.{some-not-none}
 use Rattle.ath_sorts.proofs.SortLaws.{size-var, depth-var, same_svar-true}
 use Rattle.ath_sorts.proofs.SubstitutionLaws.{image-none, opt_cases}
-use Rattle.ath_sorts.proofs.UnifierLaws.{agree}
+use Rattle.ath_unifiers.proofs.UnifierLaws.{agree}
 use Rattle.ath_unifiers.specs.Differences.{solve}
 use Rattle.ath_unifiers.specs.Unified.{Unified, solved, clashes, too_large, has_small_images, within_limits, unified}
 use Rattle.ath_unifiers.specs.Outcomes.{IsUnified, MatchOutcome}

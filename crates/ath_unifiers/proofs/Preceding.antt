@@ -4,10 +4,10 @@ use Rattle.std.proofs.lemmas.Grind.{common_steps}
 use Rattle.ath_sorts.specs.declared.sorts.SVar.{SVar}
 use Rattle.ath_sorts.specs.declared.sorts.SVar.TheVariants.{Written, Made}
 use Rattle.ath_sorts.specs.Sorts.{same_svar}
-use Rattle.ath_sorts.specs.Order.{comes_first, precedes}
+use Rattle.ath_unifiers.specs.Order.{comes_first, precedes}
 use Rattle.ath_sorts.proofs.Bools.{true-not-false, num_cases}
 use Rattle.ath_sorts.proofs.SortLaws.{same_svar-true}
-use Rattle.ath_sorts.proofs.UnifierLaws.{precedes-apart}
+use Rattle.ath_unifiers.proofs.UnifierLaws.{precedes-apart}
 use Rattle.ath_unifiers.proofs.Reading.{is_in}
 use Rattle.ath_unifiers.proofs.Solving.{IsOrder}
 

@@ -6,10 +6,12 @@ use Rattle.std.proofs.lemmas.List.Folds.{list_any-append}
 use Rattle.ath_sorts.specs.declared.sorts.SVar.{SVar}
 use Rattle.ath_sorts.specs.declared.sorts.Sort.{Sort, Var}
 use Rattle.ath_sorts.specs.Sorts.{same_svar, image, apply_to, occurs}
-use Rattle.ath_sorts.specs.Unifiers.{Unifies}
-use Rattle.ath_sorts.specs.Order.{same_sort, joined, vars_of, vars_read}
+use Rattle.ath_unifiers.specs.Unifiers.{Unifies}
+use Rattle.ath_sorts.specs.Equality.{same_sort}
+use Rattle.ath_unifiers.specs.Order.{joined, vars_of, vars_read}
 use Rattle.ath_sorts.proofs.Bools.{bool_cases, either_of, either_to, true-not-false}
-use Rattle.ath_sorts.proofs.SameSorts.{same_sort-true, vars-var, vars-con}
+use Rattle.ath_sorts.proofs.SameSorts.{same_sort-true}
+use Rattle.ath_unifiers.proofs.VariableLaws.{vars-var, vars-con}
 use Rattle.ath_sorts.proofs.SortLaws.{sort_induction, apply-var, apply-con, occurs-var, occurs-con, same_svar-true, same_svar-refl}
 use Rattle.ath_sorts.proofs.SubstitutionLaws.{apply-apply}
 use Rattle.ath_unifiers.specs.Differences.{replaced}

@@ -4,7 +4,7 @@ use Rattle.std.specs.List.{AllByRecursion}
 use Rattle.ath_sorts.specs.declared.sorts.SVar.{SVar}
 use Rattle.ath_sorts.specs.declared.sorts.Sort.{Sort, Var, Con}
 use Rattle.ath_sorts.specs.Sorts.{apply_to, occurs}
-use Rattle.ath_sorts.specs.Unifiers.{Unifies}
+use Rattle.ath_unifiers.specs.Unifiers.{Unifies}
 use Rattle.ath_sorts.proofs.Bools.{true-not-false}
 use Rattle.ath_sorts.proofs.SortLaws.{sort_induction, apply-var, apply-con, occurs-var, same_svar-refl}
 use Rattle.ath_unifiers.specs.Differences.{Difference, none, binds, apart, difference, first_place, search}

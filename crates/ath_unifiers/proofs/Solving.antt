@@ -5,7 +5,7 @@ use Rattle.ath_sorts.specs.declared.sorts.SVar.{SVar}
 use Rattle.ath_sorts.specs.declared.sorts.Sort.{Sort, Var}
 use Rattle.ath_sorts.specs.Sorts.{same_svar, image, apply_to, occurs, after}
 use Rattle.ath_sorts.specs.Substitutions.{entry_of}
-use Rattle.ath_sorts.specs.Unifiers.{Unifies, HasUnifier, IsClash, MovesAll}
+use Rattle.ath_unifiers.specs.Unifiers.{Unifies, HasUnifier, IsClash, MovesAll}
 use Rattle.ath_sorts.proofs.Bools.{true-not-false}
 use Rattle.ath_sorts.proofs.Gets.{length-map', some-inj, some-not-none}
 use Rattle.ath_sorts.proofs.SortLaws.{apply-var, occurs-var, Var-inj, same_svar-true, same_svar-refl}

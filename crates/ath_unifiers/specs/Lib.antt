@@ -1,3 +1,8 @@
+pub mod Order
+pub mod Places
+pub mod Partitions
+pub mod Unifiers
+pub mod Graphs
 pub mod Differences
 pub mod Unified
 pub mod Outcomes

@@ -2,10 +2,10 @@
 use Rattle.std.specs.Prelude.{◌≡◌, false, IsTrue, List, Result, Ok, Err}
 use Rattle.ath_sorts.specs.declared.sorts.SVar.{SVar}
 use Rattle.ath_sorts.specs.declared.sorts.Sort.{Sort}
-use Rattle.ath_sorts.specs.declared.substitution.UnifyError.{UnifyError}
-use Rattle.ath_sorts.specs.declared.substitution.UnifyError.TheVariants.{Clash, SortTooLarge, Memory}
+use Rattle.ath_unifiers.specs.declared.unification.UnifyError.{UnifyError}
+use Rattle.ath_unifiers.specs.declared.unification.UnifyError.TheVariants.{Clash, SortTooLarge, Memory}
 use Rattle.ath_sorts.specs.Sorts.{image, is_small}
-use Rattle.ath_sorts.specs.Unifiers.{IsLeastUnifier, IsClash, MovesAll}
+use Rattle.ath_unifiers.specs.Unifiers.{IsLeastUnifier, IsClash, MovesAll}
 use Rattle.ath_unifiers.specs.Unified.{Unified, solved, clashes, too_large}
 
 -- the outcome is the least unifier, where it exists and its images are within the limits

@@ -3,7 +3,7 @@ use Rattle.std.specs.Prelude.{ℕ, Bool, List, length, Result, Ok, Err, if◌the
 use Rattle.std.specs.List.{list_all}
 use Rattle.ath_sorts.specs.declared.sorts.SVar.{SVar}
 use Rattle.ath_sorts.specs.declared.sorts.Sort.{Sort}
-use Rattle.ath_sorts.specs.Order.{precedes, vars_read}
+use Rattle.ath_unifiers.specs.Order.{precedes, vars_read}
 use Rattle.ath_sorts.specs.Sorts.{image, is_small}
 use Rattle.ath_unifiers.specs.Differences.{solve}
 

@@ -1,6 +1,6 @@
 use Rattle.std.proofs.Common.{ap, ◌∙◌, sym, ◌==◌, length}
 use Rattle.ath_sorts.specs.Signature.{boolean}
-use Rattle.ath_sorts.specs.Order.{same_sort}
+use Rattle.ath_sorts.specs.Equality.{same_sort}
 use Rattle.ath_env.proofs.ValueLaws.{boolean_con}
 use Rattle.ath_env.proofs.value.is_boolean.Goals as goal
 

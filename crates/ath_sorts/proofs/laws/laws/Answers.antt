@@ -1,17 +1,10 @@
 use Rattle.ath_sorts.proofs.MatchingLaws.{instances_agree}
 use Rattle.ath_sorts.proofs.SubstitutionLaws.{applying}
-use Rattle.ath_sorts.proofs.UnifierLaws.{agree, factors}
 use Rattle.ath_sorts.proofs.ValidityLaws.{initial_valid, sorts_keep_validity, symbols_keep_validity}
 use Rattle.ath_sorts.proofs.laws.laws.Goals as goal
 
 pub returns-clause-applying_is_composition : goal.returns-clause-applying_is_composition
 returns-clause-applying_is_composition c s t sort = applying s t sort
-
-pub returns-clause-unifiers_factor : goal.returns-clause-unifiers_factor
-returns-clause-unifiers_factor c s pairs f m u v = factors s pairs f m u v
-
-pub returns-clause-least_unifiers_agree : goal.returns-clause-least_unifiers_agree
-returns-clause-least_unifiers_agree c s t pairs m n v = agree s t pairs m n v
 
 pub returns-clause-instances_agree : goal.returns-clause-instances_agree
 returns-clause-instances_agree c s t general special rigid m n v = instances_agree s t general special rigid m n v

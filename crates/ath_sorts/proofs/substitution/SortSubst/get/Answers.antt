@@ -4,7 +4,7 @@ use Rattle.ath_sorts.specs.declared.sorts.Sort.{Sort}
 use Rattle.ath_sorts.specs.Substitutions.{entry_of}
 use Rattle.ath_sorts.proofs.EntryPlaces.{filed_here, filed_past}
 use Rattle.ath_sorts.proofs.Gets.{get-from-or, get-past}
-use Rattle.ath_sorts.proofs.NodePlaces.{looked_up}
+use Rattle.ath_sorts.proofs.VariablePlaces.{looked_up}
 use Rattle.ath_sorts.proofs.substitution.SortSubst.get.Goals as goal
 
 pub returns-in_default-get : goal.returns-in_default-get

@@ -4,7 +4,7 @@ use Rattle.ath_sorts.specs.declared.sorts.Sort.{Sort}
 use Rattle.ath_sorts.specs.Places.{HasEntries, LeavesOthers}
 use Rattle.ath_sorts.specs.Substitutions.{entry_of}
 use Rattle.ath_sorts.proofs.EntryPlaces.{both_more, entry_more, place_more, leaves-fewer, leaves-more}
-use Rattle.ath_sorts.proofs.NodePlaces.{filed_at}
+use Rattle.ath_sorts.proofs.VariablePlaces.{filed_at}
 use Rattle.ath_sorts.proofs.SignatureLaws.{none_of}
 use Rattle.ath_sorts.proofs.substitution.SortSubst.push.Goals as goal
 

@@ -1,6 +1,0 @@
-use Rattle.std.proofs.Common.{take}
-use Rattle.ath_sorts.specs.Graphs.{Stands}
-use Rattle.ath_sorts.proofs.unification.graph_of.Given as goal
-
-abbrev pub invariant-loop-at : goal.invariant-loop-at
-invariant-loop-at l = Stands l.graph (take l.at l.pairs)

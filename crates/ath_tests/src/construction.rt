@@ -4,7 +4,7 @@ ghost use Rattle.std.specs.Prelude.{◌≡◌, ◌<◌, length, IfOk};
 ghost use Rattle.ath_trees.specs.Tree.{var};
 ghost use Rattle.ath_terms.specs.Trees.{Grows, IsTerm};
 
-use ath_construction::{app, ascribe, atom, connective, equation, quantify};
+use ath_construction::{app, ascribe, atom, connective, equation, quantify, universal_closure};
 use ath_sorts::sorts::{BOOLEAN, con, is_same};
 use ath_sorts::{SVar, Signature, Sort, Sym};
 use ath_terms::{BuildError, Fresh, SentNode, Store, TermNode};
@@ -248,5 +248,28 @@ fn a_binder_is_renamed_where_it_would_bind_another(rt: HostRuntime) -> Result<()
     };
     assert_eq!(rt; bound.index, 1);
     assert_eq!(rt; made[1], other);
+    Ok(())
+}
+
+#[test]
+fn a_sentence_is_closed_over_its_free_variables(rt: HostRuntime) -> Result<(), Fail> {
+    let alloc = rt.alloc();
+    let mut store = Store::new(alloc);
+    let x = variable(alloc, &mut store, X, constant(alloc, N))?;
+    let y = variable(alloc, &mut store, F, constant(alloc, N))?;
+    let body = equation(alloc, &mut store, x, y)?;
+    let all = universal_closure(alloc, &mut store, body)?;
+    let SentNode::Quant(quant, outer, rest) = store.sent(all) else {
+        return Err("no quantifier".into());
+    };
+    assert_eq!(rt; *quant, Quant::Forall);
+    assert_eq!(rt; outer.name, X);
+    let SentNode::Quant(_, inner, last) = store.sent(*rest) else {
+        return Err("no second quantifier".into());
+    };
+    assert_eq!(rt; inner.name, F);
+    assert_eq!(rt; *last, body);
+    let again = universal_closure(alloc, &mut store, all)?;
+    assert_eq!(rt; again, all);
     Ok(())
 }

@@ -114,263 +114,245 @@ module _ (x : Var) (by : Term) where
         let o = among-bound_of x k v p (same_var-sym x v d) e in
         subst-levels (sent_depth (bound k v p)) (suc (sent_depth p)) (bound k v p) (omega arith) (omega arith) ∙ captured-step o u
 
--- ---- its nodes, counted at the occurrences of the variable, each of which has a
-module _ (x : Var) (a : ℕ) where
+-- ---- nodes and levels: numbers of the parts that are joined, by a sum or by the greater one
+module _ (join : ℕ → ℕ → ℕ) where
   abbrev mutual
-    s_term : Term → ℕ
-    s_term (var v) = if same_var x v then a else 1
-    s_term (app f ss ts) = 1 + s_terms ts
+    m_term : Term → ℕ
+    m_term (var v) = 1
+    m_term (app f ss ts) = 1 + m_terms ts
 
-    s_terms : Terms → ℕ
-    s_terms none = 0
-    s_terms (more t ts) = s_term t + s_terms ts
+    m_terms : Terms → ℕ
+    m_terms none = 0
+    m_terms (more t ts) = join (m_term t) (m_terms ts)
 
-  abbrev s_sent : Sent → ℕ
-  s_sent (atom t) = s_term t
-  s_sent (equal s t) = 1 + s_term s + s_term t
-  s_sent (negated p) = 1 + s_sent p
-  s_sent (joined c p q) = 1 + s_sent p + s_sent q
-  s_sent (bound k v p) = if same_var x v then sent_size (bound k v p) else 1 + s_sent p
+  abbrev m_sent : Sent → ℕ
+  m_sent (atom t) = m_term t
+  m_sent (equal s t) = 1 + join (m_term s) (m_term t)
+  m_sent (negated p) = 1 + m_sent p
+  m_sent (joined c p q) = 1 + join (m_sent p) (m_sent q)
+  m_sent (bound k v p) = 1 + m_sent p
 
-  mutual
-    s_term-put : (by : Term) (t : Term) → term_size by ≡ a → term_size (subst_term x by t) ≡ s_term t
-    s_term-put by (var v) e = by_cases (same_var x v) (λ t. rw t e) (λ f. rw f refl)
-    s_term-put by (app f ss ts) e = ap (λ n. 1 + n) (s_terms-put by ts e)
+  -- counted at the occurrences of the variable, each of which has a
+  module _ (x : Var) (a : ℕ) where
+    abbrev mutual
+      c_term : Term → ℕ
+      c_term (var v) = if same_var x v then a else 1
+      c_term (app f ss ts) = 1 + c_terms ts
 
-    s_terms-put : (by : Term) (ts : Terms) → term_size by ≡ a → terms_size (subst_terms x by ts) ≡ s_terms ts
-    s_terms-put by none e = refl
-    s_terms-put by (more t ts) e = let b = s_term-put by t e in let c = s_terms-put by ts e in λ i. b i + c i
+      c_terms : Terms → ℕ
+      c_terms none = 0
+      c_terms (more t ts) = join (c_term t) (c_terms ts)
 
-  -- a renaming of another variable to another
-  module _ (y z : Var) (d : same_var x y ≡ false) (e : same_var x z ≡ false) where
+    abbrev c_sent : Sent → ℕ
+    c_sent (atom t) = c_term t
+    c_sent (equal s t) = 1 + join (c_term s) (c_term t)
+    c_sent (negated p) = 1 + c_sent p
+    c_sent (joined c p q) = 1 + join (c_sent p) (c_sent q)
+    c_sent (bound k v p) = if same_var x v then m_sent (bound k v p) else 1 + c_sent p
+
     mutual
-      s_term-renamed : (t : Term) → s_term (subst_term y (var z) t) ≡ s_term t
-      s_term-renamed (var v) = by_cases (same_var y v)
-          (λ t. let q : same_var x v ≡ false = subst (λ (u : Var). same_var x u ≡ false) (same_var-true y v t) d in rw (t, q, e) refl)
-          (λ f. rw f refl)
-      s_term-renamed (app f ss ts) = ap (λ n. 1 + n) (s_terms-renamed ts)
+      c_term-put : (by : Term) (t : Term) → m_term by ≡ a → m_term (subst_term x by t) ≡ c_term t
+      c_term-put by (var v) e = by_cases (same_var x v) (λ t. rw t e) (λ f. rw f refl)
+      c_term-put by (app f ss ts) e = ap (λ n. 1 + n) (c_terms-put by ts e)
 
-      s_terms-renamed : (ts : Terms) → s_terms (subst_terms y (var z) ts) ≡ s_terms ts
-      s_terms-renamed none = refl
-      s_terms-renamed (more t ts) = let b = s_term-renamed t in let c = s_terms-renamed ts in λ i. b i + c i
+      c_terms-put : (by : Term) (ts : Terms) → m_term by ≡ a → m_terms (subst_terms x by ts) ≡ c_terms ts
+      c_terms-put by none e = refl
+      c_terms-put by (more t ts) e = let b = c_term-put by t e in let c = c_terms-put by ts e in λ i. join (b i) (c i)
 
-    s_sent-renamed : (p : Sent) → s_sent (renamed y z p) ≡ s_sent p
-    s_sent-renamed (atom t) = s_term-renamed t
-    s_sent-renamed (equal s t) = let b = s_term-renamed s in let c = s_term-renamed t in λ i. 1 + b i + c i
-    s_sent-renamed (negated p) = ap (λ n. 1 + n) (s_sent-renamed p)
-    s_sent-renamed (joined k p q) = let b = s_sent-renamed p in let c = s_sent-renamed q in λ i. 1 + b i + c i
-    s_sent-renamed (bound k v p) = by_cases (same_var y v)
-        (λ t. rw t refl)
+  module _ (x : Var) where
+    mutual
+      c_term-one : (t : Term) → c_term x 1 t ≡ m_term t
+      c_term-one (var v) = by_cases (same_var x v) (λ t. rw t refl) (λ f. rw f refl)
+      c_term-one (app f ss ts) = ap (λ n. 1 + n) (c_terms-one ts)
+
+      c_terms-one : (ts : Terms) → c_terms x 1 ts ≡ m_terms ts
+      c_terms-one none = refl
+      c_terms-one (more t ts) = let b = c_term-one t in let c = c_terms-one ts in λ i. join (b i) (c i)
+
+    c_sent-one : (p : Sent) → c_sent x 1 p ≡ m_sent p
+    c_sent-one (atom t) = c_term-one t
+    c_sent-one (equal s t) = let b = c_term-one s in let c = c_term-one t in λ i. 1 + join (b i) (c i)
+    c_sent-one (negated p) = ap (λ n. 1 + n) (c_sent-one p)
+    c_sent-one (joined k p q) = let b = c_sent-one p in let c = c_sent-one q in λ i. 1 + join (b i) (c i)
+    c_sent-one (bound k v p) = by_cases (same_var x v) (λ t. rw t refl) (λ f. rw f (ap (λ n. 1 + n) (c_sent-one p)))
+
+  -- a renaming of a variable to another
+  module _ (y z : Var) where
+    m_term-renamed : (t : Term) → m_term (subst_term y (var z) t) ≡ m_term t
+    m_term-renamed t = c_term-put y 1 (var z) t refl ∙ c_term-one y t
+
+    m_sent-renamed : (p : Sent) → m_sent (renamed y z p) ≡ m_sent p
+    m_sent-renamed (atom t) = m_term-renamed t
+    m_sent-renamed (equal s t) = let b = m_term-renamed s in let c = m_term-renamed t in λ i. 1 + join (b i) (c i)
+    m_sent-renamed (negated p) = ap (λ n. 1 + n) (m_sent-renamed p)
+    m_sent-renamed (joined k p q) = let b = m_sent-renamed p in let c = m_sent-renamed q in λ i. 1 + join (b i) (c i)
+    m_sent-renamed (bound k v p) = by_cases (same_var y v) (λ t. rw t refl) (λ f. rw f (ap (λ n. 1 + n) (m_sent-renamed p)))
+
+  module _ (x : Var) (a : ℕ) where
+    -- neither of them the one that is counted
+    module _ (y z : Var) (d : same_var x y ≡ false) (e : same_var x z ≡ false) where
+      mutual
+        c_term-renamed : (t : Term) → c_term x a (subst_term y (var z) t) ≡ c_term x a t
+        c_term-renamed (var v) = by_cases (same_var y v)
+            (λ t. let q : same_var x v ≡ false = subst (λ (u : Var). same_var x u ≡ false) (same_var-true y v t) d in rw (t, q, e) refl)
+            (λ f. rw f refl)
+        c_term-renamed (app f ss ts) = ap (λ n. 1 + n) (c_terms-renamed ts)
+
+        c_terms-renamed : (ts : Terms) → c_terms x a (subst_terms y (var z) ts) ≡ c_terms x a ts
+        c_terms-renamed none = refl
+        c_terms-renamed (more t ts) = let b = c_term-renamed t in let c = c_terms-renamed ts in λ i. join (b i) (c i)
+
+      c_sent-renamed : (p : Sent) → c_sent x a (renamed y z p) ≡ c_sent x a p
+      c_sent-renamed (atom t) = c_term-renamed t
+      c_sent-renamed (equal s t) = let b = c_term-renamed s in let c = c_term-renamed t in λ i. 1 + join (b i) (c i)
+      c_sent-renamed (negated p) = ap (λ n. 1 + n) (c_sent-renamed p)
+      c_sent-renamed (joined k p q) = let b = c_sent-renamed p in let c = c_sent-renamed q in λ i. 1 + join (b i) (c i)
+      c_sent-renamed (bound k v p) = by_cases (same_var y v)
+          (λ t. rw t refl)
+          (λ f. by_cases (same_var x v)
+          (λ s. rw (f, s) (ap (λ n. 1 + n) (m_sent-renamed y z p)))
+          (λ g. rw (f, g) (ap (λ n. 1 + n) (c_sent-renamed p))))
+
+    c_sent-put : (n : ℕ) (by : Term) (p : Sent) → sent_depth p ≤ n → m_term by ≡ a → m_sent (subst_to n x by p) ≡ c_sent x a p
+    c_sent-put zero by p l e = absurd (let k = sent-deep p in omega arith)
+    c_sent-put (suc n) by (atom t) l e = c_term-put x a by t e
+    c_sent-put (suc n) by (equal s t) l e = let b = c_term-put x a by s e in let c = c_term-put x a by t e in λ i. 1 + join (b i) (c i)
+    c_sent-put (suc n) by (negated p) l e = ap (λ k. 1 + k) (c_sent-put n by p (omega arith) e)
+    c_sent-put (suc n) by (joined k p q) l e = let b = c_sent-put n by p (omega arith) e in let c = c_sent-put n by q (omega arith) e in λ i. 1 + join (b i) (c i)
+    c_sent-put (suc n) by (bound k v p) l e =
+        let new = other v by p in
+        let un = other-unused v by p in
+        let r = subst-renamed n v new p (omega arith) un.1 in
+        by_cases (is_among x (free_vars (bound k v p)))
+        (λ t.
+        let m = among-of_bound x k v p t in
+        let d = same_var-sym v x m.0 in
+        by_cases (is_named v (term_vars by))
+        (λ u.
+        let o : same_var x new ≡ false = not_true (same_var x new) (λ z. let w = free-every x p m.1 in let y = rw (same_var-true x new z) at w in let f = unnamed new (every_var p) un.1 in absurd (cc)) in
+        let h = c_sent-put n by (renamed v new p) (omega (arith, depth-renamed v new p)) e ∙ c_sent-renamed v new d o p in
+        rw (t, u, r, d) (ap (λ k. 1 + k) h))
+        (λ g. rw (t, g, d) (ap (λ k. 1 + k) (c_sent-put n by p (omega arith) e))))
         (λ f. by_cases (same_var x v)
-        (λ s. rw (f, s) (ap (λ n. 1 + n) (size-renamed y z p)))
-        (λ g. rw (f, g) (ap (λ n. 1 + n) (s_sent-renamed p))))
+        (λ s. rw (f, s) refl)
+        (λ g.
+        let i : is_among x (free_vars p) ≡ false = not_true (is_among x (free_vars p)) (λ z. let y = among-bound_of x k v p (same_var-sym x v g) z in absurd (cc)) in
+        let h = ap m_sent (sym (absent-to x by n p (omega arith) i)) ∙ c_sent-put n by p (omega arith) e in
+        rw (f, g) (ap (λ k. 1 + k) h)))
 
-  s_sent-put : (n : ℕ) (by : Term) (p : Sent) → sent_depth p ≤ n → term_size by ≡ a → sent_size (subst_to n x by p) ≡ s_sent p
-  s_sent-put zero by p l e = absurd (let k = sent-deep p in omega arith)
-  s_sent-put (suc n) by (atom t) l e = s_term-put by t e
-  s_sent-put (suc n) by (equal s t) l e = let b = s_term-put by s e in let c = s_term-put by t e in λ i. 1 + b i + c i
-  s_sent-put (suc n) by (negated p) l e = ap (λ k. 1 + k) (s_sent-put n by p (omega arith) e)
-  s_sent-put (suc n) by (joined k p q) l e = let b = s_sent-put n by p (omega arith) e in let c = s_sent-put n by q (omega arith) e in λ i. 1 + b i + c i
-  s_sent-put (suc n) by (bound k v p) l e =
-      let new = other v by p in
-      let un = other-unused v by p in
-      let r = subst-renamed n v new p (omega arith) un.1 in
-      by_cases (is_among x (free_vars (bound k v p)))
-      (λ t.
-      let m = among-of_bound x k v p t in
-      let d = same_var-sym v x m.0 in
-      by_cases (is_named v (term_vars by))
-      (λ u.
-      let o : same_var x new ≡ false = not_true (same_var x new) (λ z. let w = free-every x p m.1 in let y = rw (same_var-true x new z) at w in let f = unnamed new (every_var p) un.1 in absurd (cc)) in
-      let h = s_sent-put n by (renamed v new p) (omega (arith, depth-renamed v new p)) e ∙ s_sent-renamed v new d o p in
-      rw (t, u, r, d) (ap (λ k. 1 + k) h))
-      (λ g. rw (t, g, d) (ap (λ k. 1 + k) (s_sent-put n by p (omega arith) e))))
-      (λ f. by_cases (same_var x v)
-      (λ s. rw (f, s) refl)
-      (λ g.
-      let i : is_among x (free_vars p) ≡ false = not_true (is_among x (free_vars p)) (λ z. let y = among-bound_of x k v p (same_var-sym x v g) z in absurd (cc)) in
-      let h = ap sent_size (sym (absent-to x by n p (omega arith) i)) ∙ s_sent-put n by p (omega arith) e in
-      rw (f, g) (ap (λ k. 1 + k) h)))
+  m-put : (x : Var) (by : Term) (p : Sent) → m_sent (subst_sent x by p) ≡ c_sent x (m_term by) p
+  m-put x by p = c_sent-put x (m_term by) (sent_depth p) by p (omega arith) refl
+
+  m-bound : (x : Var) (by : Term) (k : Quant) (v : Var) (p : Sent) → same_var x v ≡ false → m_sent (subst_sent x by (bound k v p)) ≡ 1 + m_sent (subst_sent x by p)
+  m-bound x by k v p d =
+      let c = sym (m-put x by p) in
+      m-put x by (bound k v p) ∙ rw d (ap (λ n. 1 + n) c)
+
+  m-variable : (x z : Var) (p : Sent) → m_sent (subst_sent x (var z) p) ≡ m_sent p
+  m-variable x z p = m-put x (var z) p ∙ c_sent-one x p
+
+-- ---- its nodes
+abbrev sum : ℕ → ℕ → ℕ
+sum m n = m + n
+
+mutual
+  size-term : (t : Term) → term_size t ≡ m_term sum t
+  size-term (var v) = refl
+  size-term (app f ss ts) = ap (λ n. 1 + n) (size-terms ts)
+
+  size-terms : (ts : Terms) → terms_size ts ≡ m_terms sum ts
+  size-terms none = refl
+  size-terms (more t ts) = let b = size-term t in let c = size-terms ts in λ i. b i + c i
+
+size-sent : (p : Sent) → sent_size p ≡ m_sent sum p
+size-sent (atom t) = size-term t
+size-sent (equal s t) = let b = size-term s in let c = size-term t in omega arith
+size-sent (negated p) = ap (λ n. 1 + n) (size-sent p)
+size-sent (joined k p q) = let b = size-sent p in let c = size-sent q in omega arith
+size-sent (bound k v p) = ap (λ n. 1 + n) (size-sent p)
 
 pub size-shadowed : (x : Var) (by : Term) (k : Quant) (v : Var) (p : Sent) → same_var x v ≡ true → sent_size (subst_sent x by (bound k v p)) ≡ sent_size (bound k v p)
 size-shadowed x by k v p s = ap sent_size (subst-shadowed x by k v p s)
 
 pub size-bound : (x : Var) (by : Term) (k : Quant) (v : Var) (p : Sent) → same_var x v ≡ false → sent_size (subst_sent x by (bound k v p)) ≡ 1 + sent_size (subst_sent x by p)
-size-bound x by k v p d =
-    let a = s_sent-put x (term_size by) (sent_depth (bound k v p)) by (bound k v p) (omega arith) refl in
-    let b = s_sent-put x (term_size by) (sent_depth p) by p (omega arith) refl in
-    a ∙ (let c = sym b in rw d (ap (λ n. 1 + n) c))
+size-bound x by k v p d = size-sent (subst_sent x by (bound k v p)) ∙ m-bound sum x by k v p d ∙ ap (λ n. 1 + n) (sym (size-sent (subst_sent x by p)))
 
--- ---- its levels, counted at the occurrences of the variable, each of which has a
-module _ (x : Var) (a : ℕ) where
-  abbrev mutual
-    d_term : Term → ℕ
-    d_term (var v) = if same_var x v then a else 1
-    d_term (app f ss ts) = 1 + d_terms ts
+pub size-variable : (x z : Var) (p : Sent) → sent_size (subst_sent x (var z) p) ≡ sent_size p
+size-variable x z p = size-sent (subst_sent x (var z) p) ∙ m-variable sum x z p ∙ sym (size-sent p)
 
-    d_terms : Terms → ℕ
-    d_terms none = 0
-    d_terms (more t ts) = max (d_term t) (d_terms ts)
+-- ---- its levels
+mutual
+  depth-term : (t : Term) → term_depth t ≡ m_term max t
+  depth-term (var v) = refl
+  depth-term (app f ss ts) = ap (λ n. 1 + n) (depth-terms ts)
 
-  abbrev d_sent : Sent → ℕ
-  d_sent (atom t) = d_term t
-  d_sent (equal s t) = 1 + max (d_term s) (d_term t)
-  d_sent (negated p) = 1 + d_sent p
-  d_sent (joined c p q) = 1 + max (d_sent p) (d_sent q)
-  d_sent (bound k v p) = if same_var x v then sent_depth (bound k v p) else 1 + d_sent p
+  depth-terms : (ts : Terms) → terms_depth ts ≡ m_terms max ts
+  depth-terms none = refl
+  depth-terms (more t ts) = let b = depth-term t in let c = depth-terms ts in λ i. max (b i) (c i)
 
-  mutual
-    d_term-put : (by : Term) (t : Term) → term_depth by ≡ a → term_depth (subst_term x by t) ≡ d_term t
-    d_term-put by (var v) e = by_cases (same_var x v) (λ t. rw t e) (λ f. rw f refl)
-    d_term-put by (app f ss ts) e = ap (λ n. 1 + n) (d_terms-put by ts e)
-
-    d_terms-put : (by : Term) (ts : Terms) → term_depth by ≡ a → terms_depth (subst_terms x by ts) ≡ d_terms ts
-    d_terms-put by none e = refl
-    d_terms-put by (more t ts) e = let b = d_term-put by t e in let c = d_terms-put by ts e in λ i. max (b i) (c i)
-
-  -- a renaming of another variable to another
-  module _ (y z : Var) (d : same_var x y ≡ false) (e : same_var x z ≡ false) where
-    mutual
-      d_term-renamed : (t : Term) → d_term (subst_term y (var z) t) ≡ d_term t
-      d_term-renamed (var v) = by_cases (same_var y v)
-          (λ t. let q : same_var x v ≡ false = subst (λ (u : Var). same_var x u ≡ false) (same_var-true y v t) d in rw (t, q, e) refl)
-          (λ f. rw f refl)
-      d_term-renamed (app f ss ts) = ap (λ n. 1 + n) (d_terms-renamed ts)
-
-      d_terms-renamed : (ts : Terms) → d_terms (subst_terms y (var z) ts) ≡ d_terms ts
-      d_terms-renamed none = refl
-      d_terms-renamed (more t ts) = let b = d_term-renamed t in let c = d_terms-renamed ts in λ i. max (b i) (c i)
-
-    d_sent-renamed : (p : Sent) → d_sent (renamed y z p) ≡ d_sent p
-    d_sent-renamed (atom t) = d_term-renamed t
-    d_sent-renamed (equal s t) = let b = d_term-renamed s in let c = d_term-renamed t in λ i. 1 + max (b i) (c i)
-    d_sent-renamed (negated p) = ap (λ n. 1 + n) (d_sent-renamed p)
-    d_sent-renamed (joined k p q) = let b = d_sent-renamed p in let c = d_sent-renamed q in λ i. 1 + max (b i) (c i)
-    d_sent-renamed (bound k v p) = by_cases (same_var y v)
-        (λ t. rw t refl)
-        (λ f. by_cases (same_var x v)
-        (λ s. rw (f, s) (ap (λ n. 1 + n) (depth-renamed y z p)))
-        (λ g. rw (f, g) (ap (λ n. 1 + n) (d_sent-renamed p))))
-
-  d_sent-put : (n : ℕ) (by : Term) (p : Sent) → sent_depth p ≤ n → term_depth by ≡ a → sent_depth (subst_to n x by p) ≡ d_sent p
-  d_sent-put zero by p l e = absurd (let k = sent-deep p in omega arith)
-  d_sent-put (suc n) by (atom t) l e = d_term-put by t e
-  d_sent-put (suc n) by (equal s t) l e = let b = d_term-put by s e in let c = d_term-put by t e in λ i. 1 + max (b i) (c i)
-  d_sent-put (suc n) by (negated p) l e = ap (λ k. 1 + k) (d_sent-put n by p (omega arith) e)
-  d_sent-put (suc n) by (joined k p q) l e = let b = d_sent-put n by p (omega arith) e in let c = d_sent-put n by q (omega arith) e in λ i. 1 + max (b i) (c i)
-  d_sent-put (suc n) by (bound k v p) l e =
-      let new = other v by p in
-      let un = other-unused v by p in
-      let r = subst-renamed n v new p (omega arith) un.1 in
-      by_cases (is_among x (free_vars (bound k v p)))
-      (λ t.
-      let m = among-of_bound x k v p t in
-      let d = same_var-sym v x m.0 in
-      by_cases (is_named v (term_vars by))
-      (λ u.
-      let o : same_var x new ≡ false = not_true (same_var x new) (λ z. let w = free-every x p m.1 in let y = rw (same_var-true x new z) at w in let f = unnamed new (every_var p) un.1 in absurd (cc)) in
-      let h = d_sent-put n by (renamed v new p) (omega (arith, depth-renamed v new p)) e ∙ d_sent-renamed v new d o p in
-      rw (t, u, r, d) (ap (λ k. 1 + k) h))
-      (λ g. rw (t, g, d) (ap (λ k. 1 + k) (d_sent-put n by p (omega arith) e))))
-      (λ f. by_cases (same_var x v)
-      (λ s. rw (f, s) refl)
-      (λ g.
-      let i : is_among x (free_vars p) ≡ false = not_true (is_among x (free_vars p)) (λ z. let y = among-bound_of x k v p (same_var-sym x v g) z in absurd (cc)) in
-      let h = ap sent_depth (sym (absent-to x by n p (omega arith) i)) ∙ d_sent-put n by p (omega arith) e in
-      rw (f, g) (ap (λ k. 1 + k) h)))
+depth-sent : (p : Sent) → sent_depth p ≡ m_sent max p
+depth-sent (atom t) = depth-term t
+depth-sent (equal s t) = let b = depth-term s in let c = depth-term t in λ i. 1 + max (b i) (c i)
+depth-sent (negated p) = ap (λ n. 1 + n) (depth-sent p)
+depth-sent (joined k p q) = let b = depth-sent p in let c = depth-sent q in λ i. 1 + max (b i) (c i)
+depth-sent (bound k v p) = ap (λ n. 1 + n) (depth-sent p)
 
 pub depth-shadowed : (x : Var) (by : Term) (k : Quant) (v : Var) (p : Sent) → same_var x v ≡ true → sent_depth (subst_sent x by (bound k v p)) ≡ sent_depth (bound k v p)
 depth-shadowed x by k v p s = ap sent_depth (subst-shadowed x by k v p s)
 
 pub depth-bound : (x : Var) (by : Term) (k : Quant) (v : Var) (p : Sent) → same_var x v ≡ false → sent_depth (subst_sent x by (bound k v p)) ≡ 1 + sent_depth (subst_sent x by p)
-depth-bound x by k v p d =
-    let a = d_sent-put x (term_depth by) (sent_depth (bound k v p)) by (bound k v p) (omega arith) refl in
-    let b = d_sent-put x (term_depth by) (sent_depth p) by p (omega arith) refl in
-    a ∙ (let c = sym b in rw d (ap (λ n. 1 + n) c))
+depth-bound x by k v p d = depth-sent (subst_sent x by (bound k v p)) ∙ m-bound max x by k v p d ∙ ap (λ n. 1 + n) (sym (depth-sent (subst_sent x by p)))
 
--- ---- not many more nodes, and not much deeper; and as many where a variable is put
+pub depth-variable : (x z : Var) (p : Sent) → sent_depth (subst_sent x (var z) p) ≡ sent_depth p
+depth-variable x z p = depth-sent (subst_sent x (var z) p) ∙ m-variable max x z p ∙ sym (depth-sent p)
+
+-- ---- not many more nodes, and not much deeper
 module _ (x : Var) (a : ℕ) (h : a ≤ MOST_TERM_NODES) where
   mutual
-    few_term : (t : Term) → s_term x a t ≤ MOST_TERM_NODES * term_size t
+    few_term : (t : Term) → c_term sum x a t ≤ MOST_TERM_NODES * term_size t
     few_term (var v) = by_cases (same_var x v) (λ t. rw t (omega arith)) (λ f. rw f (omega arith))
     few_term (app f ss ts) = let r = few_terms ts in omega arith
 
-    few_terms : (ts : Terms) → s_terms x a ts ≤ MOST_TERM_NODES * terms_size ts
+    few_terms : (ts : Terms) → c_terms sum x a ts ≤ MOST_TERM_NODES * terms_size ts
     few_terms none = omega arith
     few_terms (more t ts) = let b = few_term t in let c = few_terms ts in omega arith
 
-  few_sent : (p : Sent) → s_sent x a p ≤ MOST_TERM_NODES * sent_size p
+  few_sent : (p : Sent) → c_sent sum x a p ≤ MOST_TERM_NODES * sent_size p
   few_sent (atom t) = few_term t
   few_sent (equal s t) = let b = few_term s in let c = few_term t in omega arith
   few_sent (negated p) = let b = few_sent p in omega arith
   few_sent (joined c p q) = let b = few_sent p in let c = few_sent q in omega arith
-  few_sent (bound k v p) = let b = few_sent p in by_cases (same_var x v) (λ t. rw t (omega arith)) (λ f. rw f (omega arith))
+  few_sent (bound k v p) = let b = few_sent p in let e = size-sent p in by_cases (same_var x v) (λ t. rw t (omega arith)) (λ f. rw f (omega arith))
 
 module _ (x : Var) (a : ℕ) (h : a ≤ MOST_TERM_LEVELS) where
   mutual
-    shallow_term : (t : Term) → d_term x a t ≤ MOST_TERM_LEVELS + term_depth t
+    shallow_term : (t : Term) → c_term max x a t ≤ MOST_TERM_LEVELS + term_depth t
     shallow_term (var v) = by_cases (same_var x v) (λ t. rw t (omega arith)) (λ f. rw f (omega arith))
     shallow_term (app f ss ts) = let r = shallow_terms ts in omega arith
 
-    shallow_terms : (ts : Terms) → d_terms x a ts ≤ MOST_TERM_LEVELS + terms_depth ts
+    shallow_terms : (ts : Terms) → c_terms max x a ts ≤ MOST_TERM_LEVELS + terms_depth ts
     shallow_terms none = omega arith
     shallow_terms (more t ts) = let b = shallow_term t in let c = shallow_terms ts in omega arith
 
-  shallow_sent : (p : Sent) → d_sent x a p ≤ MOST_TERM_LEVELS + sent_depth p
+  shallow_sent : (p : Sent) → c_sent max x a p ≤ MOST_TERM_LEVELS + sent_depth p
   shallow_sent (atom t) = shallow_term t
   shallow_sent (equal s t) = let b = shallow_term s in let c = shallow_term t in omega arith
   shallow_sent (negated p) = let b = shallow_sent p in omega arith
   shallow_sent (joined c p q) = let b = shallow_sent p in let c = shallow_sent q in omega arith
-  shallow_sent (bound k v p) = let b = shallow_sent p in by_cases (same_var x v) (λ t. rw t (omega arith)) (λ f. rw f (omega arith))
+  shallow_sent (bound k v p) = let b = shallow_sent p in let e = depth-sent p in by_cases (same_var x v) (λ t. rw t (omega arith)) (λ f. rw f (omega arith))
 
 pub term-few : (x : Var) (by t : Term) → term_size by ≤ MOST_TERM_NODES → term_size (subst_term x by t) ≤ MOST_TERM_NODES * term_size t
-term-few x by t h = rw (s_term-put x (term_size by) by t refl) (few_term x (term_size by) h t)
+term-few x by t h = rw (size-term (subst_term x by t) ∙ c_term-put sum x (term_size by) by t (sym (size-term by))) (few_term x (term_size by) h t)
 
 pub term-shallow : (x : Var) (by t : Term) → term_depth by ≤ MOST_TERM_LEVELS → term_depth (subst_term x by t) ≤ MOST_TERM_LEVELS + term_depth t
-term-shallow x by t h = rw (d_term-put x (term_depth by) by t refl) (shallow_term x (term_depth by) h t)
+term-shallow x by t h = rw (depth-term (subst_term x by t) ∙ c_term-put max x (term_depth by) by t (sym (depth-term by))) (shallow_term x (term_depth by) h t)
 
 pub sent-few : (x : Var) (by : Term) (p : Sent) → term_size by ≤ MOST_TERM_NODES → sent_size (subst_sent x by p) ≤ MOST_TERM_NODES * sent_size p
-sent-few x by p h = let e = s_sent-put x (term_size by) (sent_depth p) by p (omega arith) refl in rw e (few_sent x (term_size by) h p)
+sent-few x by p h =
+    let e = size-sent (subst_sent x by p) ∙ c_sent-put sum x (term_size by) (sent_depth p) by p (omega arith) (sym (size-term by)) in
+    rw e (few_sent x (term_size by) h p)
 
 pub sent-shallow : (x : Var) (by : Term) (p : Sent) → term_depth by ≤ MOST_TERM_LEVELS → sent_depth (subst_sent x by p) ≤ MOST_TERM_LEVELS + sent_depth p
-sent-shallow x by p h = let e = d_sent-put x (term_depth by) (sent_depth p) by p (omega arith) refl in rw e (shallow_sent x (term_depth by) h p)
-
-module _ (x : Var) where
-  mutual
-    s_term-one : (t : Term) → s_term x 1 t ≡ term_size t
-    s_term-one (var v) = by_cases (same_var x v) (λ t. rw t refl) (λ f. rw f refl)
-    s_term-one (app f ss ts) = ap (λ n. 1 + n) (s_terms-one ts)
-
-    s_terms-one : (ts : Terms) → s_terms x 1 ts ≡ terms_size ts
-    s_terms-one none = refl
-    s_terms-one (more t ts) = let b = s_term-one t in let c = s_terms-one ts in λ i. b i + c i
-
-  s_sent-one : (p : Sent) → s_sent x 1 p ≡ sent_size p
-  s_sent-one (atom t) = s_term-one t
-  s_sent-one (equal s t) = let b = s_term-one s in let c = s_term-one t in λ i. 1 + b i + c i
-  s_sent-one (negated p) = ap (λ n. 1 + n) (s_sent-one p)
-  s_sent-one (joined k p q) = let b = s_sent-one p in let c = s_sent-one q in λ i. 1 + b i + c i
-  s_sent-one (bound k v p) = by_cases (same_var x v) (λ t. rw t refl) (λ f. rw f (ap (λ n. 1 + n) (s_sent-one p)))
-
-pub size-variable : (x z : Var) (p : Sent) → sent_size (subst_sent x (var z) p) ≡ sent_size p
-size-variable x z p = s_sent-put x 1 (sent_depth p) (var z) p (omega arith) refl ∙ s_sent-one x p
-
-module _ (x : Var) where
-  mutual
-    d_term-one : (t : Term) → d_term x 1 t ≡ term_depth t
-    d_term-one (var v) = by_cases (same_var x v) (λ t. rw t refl) (λ f. rw f refl)
-    d_term-one (app f ss ts) = ap (λ n. 1 + n) (d_terms-one ts)
-
-    d_terms-one : (ts : Terms) → d_terms x 1 ts ≡ terms_depth ts
-    d_terms-one none = refl
-    d_terms-one (more t ts) = let b = d_term-one t in let c = d_terms-one ts in λ i. max (b i) (c i)
-
-  d_sent-one : (p : Sent) → d_sent x 1 p ≡ sent_depth p
-  d_sent-one (atom t) = d_term-one t
-  d_sent-one (equal s t) = let b = d_term-one s in let c = d_term-one t in λ i. 1 + max (b i) (c i)
-  d_sent-one (negated p) = ap (λ n. 1 + n) (d_sent-one p)
-  d_sent-one (joined k p q) = let b = d_sent-one p in let c = d_sent-one q in λ i. 1 + max (b i) (c i)
-  d_sent-one (bound k v p) = by_cases (same_var x v) (λ t. rw t refl) (λ f. rw f (ap (λ n. 1 + n) (d_sent-one p)))
-
-pub depth-variable : (x z : Var) (p : Sent) → sent_depth (subst_sent x (var z) p) ≡ sent_depth p
-depth-variable x z p = d_sent-put x 1 (sent_depth p) (var z) p (omega arith) refl ∙ d_sent-one x p
+sent-shallow x by p h =
+    let e = depth-sent (subst_sent x by p) ∙ c_sent-put max x (term_depth by) (sent_depth p) by p (omega arith) (sym (depth-term by)) in
+    rw e (shallow_sent x (term_depth by) h p)

@@ -7,7 +7,7 @@ use Rattle.ath_syntax.specs.Nodes.{Nodes}
 use Rattle.ath_terms.specs.Trees.{Trees, Grows}
 use Rattle.ath_eval.specs.declared.frame.Frame.{Frame}
 use Rattle.ath_eval.specs.declared.frame.Frame.TheVariants.{Head, Argument, Ascription}
-use Rattle.ath_eval.specs.Machine.{Scope, Fills, Resumes}
+use Rattle.ath_eval.specs.Machine.{Reading, Fills, Resumes}
 use Rattle.ath_eval.specs.Outcomes.{Outcome}
 use Rattle.ath_eval.proofs.Arguments.{value_grows, values_grow}
 
@@ -20,7 +20,7 @@ drop_end [] (suc i) h = refl
 drop_end (x ∷ xs) zero h = cc
 drop_end (x ∷ xs) (suc i) h = drop_end xs i h
 
-module _ (c : Scope) (nodes : Nodes) where
+module _ (c : Reading) (nodes : Nodes) where
   -- a frame that is pushed is resumed first
   pub resumes_push : (s : Trees) (fs : List Frame) (f : Frame) (r mid out : Outcome) → Fills c nodes s f r mid → Resumes c nodes s fs mid out → Resumes c nodes s (fs ++ f ∷ []) r out
   resumes_push s [] f r mid out h e = (r, refl, subst (λ x. Fills c nodes s f r x) (sym e) h)

@@ -23,7 +23,7 @@ use Rattle.ath_eval.specs.declared.frame.State.TheVariants.{Done}
 use Rattle.ath_eval.specs.declared.world.Outcome as code
 use Rattle.ath_eval.specs.declared.world.Outcome.TheVariants as ends
 use Rattle.ath_eval.specs.Evaluation.{ascribed}
-use Rattle.ath_eval.specs.Machine.{Scope, evaluates, acts, Fills, Resumes, Means, ArgumentsMean, FrameMeans, rank, weight}
+use Rattle.ath_eval.specs.Machine.{Reading, evaluates, acts, Fills, Resumes, Means, ArgumentsMean, FrameMeans, rank, weight}
 use Rattle.ath_eval.specs.Outcomes.{Left, left_of, Outcome, gives, concludes, fails, exhausts, and_then, each}
 use Rattle.ath_eval.specs.Room.{charged, IsBelow, IsRoomy}
 use Rattle.ath_eval.specs.World.{IsOutcome}
@@ -63,7 +63,7 @@ exhaustion_of s fuel fresh at (gives x left) h go = absurd h
 exhaustion_of s fuel fresh at (concludes x left) h go = absurd h
 exhaustion_of s fuel fresh at (fails p x left) h go = absurd h
 
-module _ (c : Scope) (nodes : Nodes) (s : Trees) where
+module _ (c : Reading) (nodes : Nodes) (s : Trees) where
   -- a frame goes on with the outcome of its part
   filled : (f : Frame) (r mid : Outcome) → Fills c nodes s f r mid → (go : Value → Left → Outcome) × (mid ≡ and_then r go) × ((q : Outcome) → Fills c nodes s f q (and_then q go))
   filled (Head u i levels) r mid (p, f, xs, isp, e) = (_, e, λ q. (p, f, xs, isp, refl))
@@ -125,7 +125,7 @@ pub frame_falls : (fuel : ℕ) (st : State) (all : List Frame) (o : code.Outcome
 frame_falls fuel st all o f fs n es ef lt = rw (es, ef) (omega (arith, lt, length-append fs (f ∷ [])))
 
 -- the value that an ascription gets
-pub ascription_gets : (c : Scope) (nodes : Nodes) (s : Trees) (fuel : ℕ) (fresh : Fresh) (fs : List Frame) (out : Outcome) (v : value.Value) (i : PhraseId) → FrameMeans c nodes s fuel fresh (ends.Value v) (Ascription i) fs out
+pub ascription_gets : (c : Reading) (nodes : Nodes) (s : Trees) (fuel : ℕ) (fresh : Fresh) (fs : List Frame) (out : Outcome) (v : value.Value) (i : PhraseId) → FrameMeans c nodes s fuel fresh (ends.Value v) (Ascription i) fs out
     → (p : Pos) × (x : Phrase) × (text : SortText) × IsPhrase nodes i (ascribe_at p x text) × IsIn s v × Resumes c nodes s fs (ascribed c.context text (value_at s v) p (left_of fuel fresh)) out
 ascription_gets c nodes s fuel fresh fs out v i (r, mid, isr, (p, x, text, isp, e), res) =
     let k = given_value s fuel fresh v r isr in

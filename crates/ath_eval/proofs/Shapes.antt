@@ -17,7 +17,7 @@ use Rattle.ath_eval.specs.Evaluation.{found, variable, unbuilt}
 use Rattle.ath_syntax.specs.Places.{place}
 use Rattle.ath_eval.specs.declared.frame.Use.{Use}
 use Rattle.ath_eval.specs.declared.frame.Use.TheVariants as uses
-use Rattle.ath_eval.specs.Machine.{Scope, evaluates, forms, used, acts, form_arguments, node_arguments, arguments_at}
+use Rattle.ath_eval.specs.Machine.{Reading, evaluates, forms, used, acts, form_arguments, node_arguments, arguments_at}
 use Rattle.ath_eval.specs.Outcomes.{Left, and_then, each}
 
 -- the arguments of a phrase, where it has some
@@ -77,7 +77,7 @@ module _ (nodes : Nodes) where
   pub ascription_form : (p q : Pos) (f : Form) (x : Phrase) (s : SortText) → IsForm nodes p f (ascribe_at q x s) → (j : PhraseId) × (f ≡ Ascribe j s) × (p ≡ q)
   ascription_form p q f x s (is_ascribe {i = j} h) = (j, refl, refl)
 
-  module _ (c : Scope) (levels : ℕ) where
+  module _ (c : Reading) (levels : ℕ) where
     pub form_name : (p : Pos) (f : Form) (x : Phrase) (n : Sym) → f ≡ Name n → IsForm nodes p f x → forms c levels x ≡ found c.context n p (looked_up c.context.names c.context.theory.signature n)
     form_name p f x n e h = go x (subst (λ (y : Form). IsForm nodes p y x) e h)
       where

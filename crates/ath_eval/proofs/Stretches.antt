@@ -31,7 +31,7 @@ use Rattle.ath_eval.specs.Evaluation.{found, variable, ascribed, unbuilt}
 use Rattle.ath_syntax.specs.Places.{place}
 use Rattle.ath_syntax.proofs.NodeLaws.{node_of}
 use Rattle.std.proofs.lemmas.Option.{slice_get_within}
-use Rattle.ath_eval.specs.Machine.{Scope, evaluates, forms, used, acts, arguments_at, Resumes, Means, Steps, FormMeans, ActMeans, ArgumentsMean, rank, weight}
+use Rattle.ath_eval.specs.Machine.{Reading, evaluates, forms, used, acts, arguments_at, Resumes, Means, Steps, FormMeans, ActMeans, ArgumentsMean, rank, weight}
 use Rattle.ath_eval.specs.Outcomes.{Left, left_of, Outcome, fails, exhausts, refusal, and_then, each}
 use Rattle.ath_eval.specs.World.{IsOutcome, IsSteady}
 use Rattle.ath_eval.proofs.Frames.{drop_at, drop_end, resumes_push, grow_resumes}
@@ -44,23 +44,23 @@ rank_below (ends.Error why at) = omega arith
 rank_below (ends.Exhausted at) = omega arith
 
 -- a step of fuel
-pub evaluated_empty : (c : Scope) (levels : ℕ) (x : Phrase) (fuel : ℕ) (fresh : Fresh) → fuel ≡ 0 → evaluates c levels x (left_of fuel fresh) ≡ exhausts (place x) fresh
+pub evaluated_empty : (c : Reading) (levels : ℕ) (x : Phrase) (fuel : ℕ) (fresh : Fresh) → fuel ≡ 0 → evaluates c levels x (left_of fuel fresh) ≡ exhausts (place x) fresh
 evaluated_empty c zero x zero fresh h = refl
 evaluated_empty c zero x (suc fuel) fresh h = cc
 evaluated_empty c (suc levels) x zero fresh h = refl
 evaluated_empty c (suc levels) x (suc fuel) fresh h = cc
 
-pub evaluated_deep : (c : Scope) (levels : ℕ) (x : Phrase) (fuel : ℕ) (fresh : Fresh) → (fuel ≡ 0 → ⊥) → levels ≡ 0 → evaluates c levels x (left_of fuel fresh) ≡ fails (place x) (refusal TooNested []) (left_of (fuel - 1) fresh)
+pub evaluated_deep : (c : Reading) (levels : ℕ) (x : Phrase) (fuel : ℕ) (fresh : Fresh) → (fuel ≡ 0 → ⊥) → levels ≡ 0 → evaluates c levels x (left_of fuel fresh) ≡ fails (place x) (refusal TooNested []) (left_of (fuel - 1) fresh)
 evaluated_deep c zero x zero fresh h k = absurd (h refl)
 evaluated_deep c zero x (suc fuel) fresh h k = let q : suc fuel - 1 ≡ fuel = omega arith in rw q refl
 evaluated_deep c (suc levels) x fuel fresh h k = cc
 
-pub evaluated_form : (c : Scope) (levels : ℕ) (x : Phrase) (fuel : ℕ) (fresh : Fresh) → (fuel ≡ 0 → ⊥) → (levels ≡ 0 → ⊥) → evaluates c levels x (left_of fuel fresh) ≡ forms c (levels - 1) x (left_of (fuel - 1) fresh)
+pub evaluated_form : (c : Reading) (levels : ℕ) (x : Phrase) (fuel : ℕ) (fresh : Fresh) → (fuel ≡ 0 → ⊥) → (levels ≡ 0 → ⊥) → evaluates c levels x (left_of fuel fresh) ≡ forms c (levels - 1) x (left_of (fuel - 1) fresh)
 evaluated_form c zero x fuel fresh h k = absurd (k refl)
 evaluated_form c (suc levels) x zero fresh h k = absurd (h refl)
 evaluated_form c (suc levels) x (suc fuel) fresh h k = let q : suc fuel - 1 ≡ fuel = omega arith in let q' : suc levels - 1 ≡ levels = omega arith in rw (q, q') refl
 
-module _ (c : Scope) (nodes : Nodes) (s : Trees) where
+module _ (c : Reading) (nodes : Nodes) (s : Trees) where
   -- nothing is stored
   pub steps_same : (before : Outcome → Type 0) (bound fuel : ℕ) (made : Fresh) (st : State) (fs : List Frame) → weight fuel st fs < bound → ((out : Outcome) → before out → Means c nodes s fuel made st fs out) → Steps c nodes s before bound s fuel made st fs
   steps_same before bound fuel made st fs lt h = record { grows = grows-none s; means = h; falls = lt }
@@ -147,7 +147,7 @@ module _ (c : Scope) (nodes : Nodes) (s : Trees) where
               (t, ist, resumes_push c nodes s fs (Argument u i h done levels) (evaluates c levels t (left_of fuel fresh)) _ out (p, f, xs, v, vs, ts, isp, isv, all, few, all', refl) r)
 
 -- the phrase is one of the nodes, and the numbers in a head that is known, and in the arguments, are numbers of the store
-module _ (c : Scope) (nodes : Nodes) (s : Trees) (fuel : ℕ) (fresh : Fresh) (u : Use) (i : PhraseId) (h : value.Value) (done : List value.Value) (levels : ℕ) (fs : List Frame) (out : Outcome) where
+module _ (c : Reading) (nodes : Nodes) (s : Trees) (fuel : ℕ) (fresh : Fresh) (u : Use) (i : PhraseId) (h : value.Value) (done : List value.Value) (levels : ℕ) (fs : List Frame) (out : Outcome) where
   pub phrase_in : ArgumentsMean c nodes s fuel fresh u i h done levels fs out → i.0 < length nodes.phrases
   phrase_in (p, f, xs, v, vs, rest, isp, isv, all, few, phrases, res) = let n = node_of nodes i (used u p f xs) isp in slice_get_within nodes.phrases i.0 n.0 n.1
 

@@ -3,8 +3,8 @@ use Rattle.std.proofs.Common.{◌≡◌, ℕ, List, refl, sym, ap, ◌∙◌, su
 use Rattle.ath_terms.specs.Trees.{Trees, Grows}
 use Rattle.ath_terms.specs.declared.fresh.Fresh.{Fresh}
 use Rattle.ath_terms.proofs.Grow.{grows-none, grows-then}
-use Rattle.ath_base.proofs.Scopes.{entries_grow, nodes_in_grow, keeps-none, keeps-then}
-use Rattle.ath_base.specs.Stands.{KeepsScopes, entries_in, entries_of}
+use Rattle.ath_base.proofs.Scopes.{entries_grow, nodes_in_grow, scope_here, keeps-none, keeps-then}
+use Rattle.ath_base.specs.Stands.{IsScope, KeepsScopes, entries_in, entries_of}
 use Rattle.ath_calculus.specs.Theory.{theory_of}
 use Rattle.ath_base.specs.declared.base.ScopeId.{ScopeId}
 use Rattle.ath_syntax.specs.Nodes.{Nodes}
@@ -62,6 +62,10 @@ pub base_same : (u v : World) → Evaluates u v → v.scope ≡ u.scope → (env
 base_same u v h e =
     ap (λ (k : ScopeId). entries_of v.store (entries_in v.base.nodes.items k.0)) e
     ∙ entries_grow u.store v.store h.grows u.base.nodes.items v.base.nodes.items u.scope.0 u.in_store u.inside h.base
+
+-- the world's scope stands for its base
+pub here : (w : World) → IsScope w.store w.base.nodes.items w.scope.0 (environment_of w).base
+here w = scope_here w.store w.base.nodes.items w.scope.0 w.in_store w.inside
 
 pub context_same : (u v : World) → Evaluates u v → context_of v ≡ context_of u
 context_same u v h = λ i. record { names = h.names i; theory = theory_of (h.signature i) }

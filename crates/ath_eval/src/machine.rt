@@ -277,8 +277,8 @@ pub fn run(alloc: Global, w: &mut World, phrase: PhraseId) -> Result<Outcome, Al
     ensures outcome { IfOk result (λ o. (x : PhraseTree) → IsPhrase w.old.phrases phrase x → IsOutcome w.new.store w.new.fuel w.new.fresh o (outcome_of (context_of w.old) (environment_of w.old) x (left_in w.old))) }
     ensures follows { IfOk result (λ o. (asserted hyps : List Sent) → AreDerivable (theory_of w.old.sig) asserted hyps (sentences (environment_of w.old).base) → IsDerivable (theory_of w.old.sig) asserted hyps w.new.store o) }
 {
-    let scope = w.scope;
+    let begun = w.scope;
     let outcome = evaluate(alloc, w, phrase, MOST_NESTED);
-    w.scope = scope;
+    w.scope = begun;
     outcome
 }

@@ -278,7 +278,8 @@ pub fn run(alloc: Global, w: &mut World, phrase: PhraseId) -> Result<Outcome, Al
     ensures follows { IfOk result (λ o. (asserted hyps : List Sent) → AreDerivable (theory_of w.old.sig) asserted hyps (sentences (environment_of w.old).base) → IsDerivable (theory_of w.old.sig) asserted hyps w.new.store o) }
 {
     let begun = w.scope;
-    let outcome = evaluate(alloc, w, phrase, MOST_NESTED);
+    let evaluated = evaluate(alloc, w, phrase, MOST_NESTED);
     w.scope = begun;
-    outcome
+    let outcome = evaluated?;
+    Ok(outcome)
 }

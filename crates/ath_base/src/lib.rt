@@ -4,5 +4,5 @@
 pub mod base;
 pub mod entry;
 
-pub use base::Base;
+pub use base::{Base, Node, ScopeId};
 pub use entry::{Entry, Origin};

@@ -1,6 +1,6 @@
 -- What holds of every evaluation: what it gives keeps a property, fuel never rises and the counters never fall, more fuel
 -- changes only what is left, and a step takes few fresh names.
-use Rattle.std.proofs.Common.{◌≡◌, ◌==◌, ℕ, zero, suc, ◌+◌, ◌≤◌, Bool, true, false, List, [], ◌∷◌, ◌++◌, length, Option, Some, None, refl, sym, ◌∙◌, ap, subst, inl, inr, if◌then◌else◌, suc-add, arith}
+use Rattle.std.proofs.Common.{◌≡◌, ◌==◌, ℕ, zero, suc, ◌+◌, ◌≤◌, Bool, true, false, List, [], ◌∷◌, ◌++◌, length, Option, Some, None, ◌⊎◌, refl, sym, ◌∙◌, ap, subst, inl, inr, if◌then◌else◌, suc-add, arith}
 use Rattle.std.specs.Prelude.{Result, Ok, Err}
 use Rattle.std.specs.List.{AllByRecursion}
 use Rattle.std.proofs.lemmas.Grind.{common_steps}
@@ -31,7 +31,7 @@ use Rattle.ath_env.specs.LookUp.{looked_up}
 use Rattle.ath_print.specs.Events.{Refusal}
 use Rattle.ath_base.specs.Base.{Entry, holds, sentences}
 use Rattle.ath_print.specs.declared.fault.FaultKind.TheVariants.{TooNested}
-use Rattle.ath_eval.specs.Outcomes.{Context, Environment, Left, left_of, Outcome, gives, concludes, fails, exhausts, refusal, Evaluator, spending, and_then, each}
+use Rattle.ath_eval.specs.Outcomes.{Context, Environment, Left, left_of, Outcome, gives, concludes, fails, exhausts, refusal, Evaluator, spending, and_then, concluding, then_in, each}
 use Rattle.ath_eval.specs.Applying.{gives_term, gives_sentence, Kinds, all_are, wrong_at, kinds_of, after_params, symbol_to, symbol_applied, miscounted, equation_to, equated, Part, part_of, sentence_made, sentences_made, connective_of, connective_to, connective_applied, variable_in, but_last, the_last, quantified_over, quantifier_to, quantifier_applied, symbol_or_equation, itself, applied, symbol_named, value_named}
 use Rattle.ath_eval.specs.Methods.{wrong_shape, if_held, claim, detached, modus_ponens, mp, claimed, ponens, called}
 use Rattle.ath_eval.specs.Evaluation.{found, variable, with_sort, ascribed_to, ascribed, form, evaluated}
@@ -47,7 +47,7 @@ Yields P Q (fails at why left) = Unit {0}
 Yields P Q (exhausts at made) = Unit {0}
 
 -- properties of values and of conclusions that evaluation keeps
-pub record IsKept (c : Context) (env : Environment) (P : Value → Type 0) (Q : Sent → Type 0) : Type 0 where
+pub record IsKept (c : Context) (P : Value → Type 0) (Q : Sent → Type 0) : Type 0 where
   pub shown : (p : Sent) → Q p → P (value_of p)
   pub named : (x : Sym) (v : Value) → looked_up c.names c.theory.signature x ≡ Some v → P v
   pub unsorted : (x : Sym) (k n : ℕ) → P (a_term (var (record { name = x; index = k; sort = Var (Made n) })) (Var (Made n)))
@@ -57,9 +57,19 @@ pub record IsKept (c : Context) (env : Environment) (P : Value → Type 0) (Q : 
   pub equates : (v w : Value) (s t : Term) (x : Sent) → P v → P w → term_of v ≡ Some s → term_of w ≡ Some t → made_equation c.theory.signature s t ≡ builds x → P (a_sentence x)
   pub connects : (k : Conn) (vs : List Value) (xs : List Part) (x : Sent) → AllByRecursion P vs → kinds_of part_of 1 vs ≡ all_are xs → connective_of c.theory.signature k (sentences_made c.theory.signature xs) ≡ builds x → P (a_sentence x)
   pub quantifies : (q : Quant) (vs : List Value) (w : Value) (xs : List Variable) (y : Part) (x : Sent) → AllByRecursion P vs → P w → kinds_of variable_in 1 vs ≡ all_are xs → part_of w ≡ Some y → quantified_over c.theory.signature q xs (sentence_made c.theory.signature y) ≡ builds x → P (a_sentence x)
-  pub held : (p : Sent) → IsAmong p (sentences env.base) → Q p
   pub renames : (p q : Sent) → AlphaEqual p q → Q p → Q q
   pub detaches : (p q : Sent) → Q (joined If p q) → Q p → Q q
+
+-- each sentence of the base has its property
+abbrev pub IsHolding : (Sent → Type 0) → Environment → Type 0
+IsHolding Q env = (p : Sent) → IsAmong p (sentences env.base) → Q p
+
+pub holding-more : (Q : Sent → Type 0) (env : Environment) (p : Sent) → IsHolding Q env → Q p → IsHolding Q (concluding p env)
+holding-more Q env p sound h = λ q i. go q i
+  where
+    go : (q : Sent) → (q ≡ p) ⊎ IsAmong q (sentences env.base) → Q q
+    go q (inl e) = subst Q (sym e) h
+    go q (inr i) = sound q i
 
 abbrev pub IsNotSpent : Outcome → Type 0
 IsNotSpent o = (at : Pos) (made : Fresh) → o ≡ exhausts at made → ⊥
@@ -141,7 +151,7 @@ the-last : (P : Value → Type 0) (v : Value) (vs : List Value) → P v → AllB
 the-last P v [] p h = p
 the-last P v (w ∷ vs) p h = the-last P w vs h.0 h.1
 
-module _ (c : Context) (env : Environment) (P : Value → Type 0) (Q : Sent → Type 0) (closed : IsKept c env P Q) where
+module _ (c : Context) (P : Value → Type 0) (Q : Sent → Type 0) (closed : IsKept c P Q) where
   abbrev Regular : Fresh → (ℕ → Outcome) → Type 0
   Regular fresh f = IsRegular c.theory.signature P Q 1 fresh f
 
@@ -229,14 +239,14 @@ module _ (c : Context) (env : Environment) (P : Value → Type 0) (Q : Sent → 
   itself-regular v [] at fresh h = value-regular v fresh h
   itself-regular v (w ∷ ws) at fresh h = error-regular fresh
 
-  applied-regular : (rec : Evaluator) (v : Value) (vs : List Value) (at : Pos) (fresh : Fresh) → P v → AllByRecursion P vs → Regular fresh (λ n. applied c rec env v vs at (left_of n fresh))
-  applied-regular rec (a_symbol f) vs at fresh p h = either-regular f (symbol_of c.theory.signature f) vs at fresh refl h
-  applied-regular rec (a_connective q) vs at fresh p h = connective-regular q vs at fresh h
-  applied-regular rec (a_term t r) vs at fresh p h = itself-regular (a_term t r) vs at fresh p
-  applied-regular rec (a_sentence q) vs at fresh p h = itself-regular (a_sentence q) vs at fresh p
-  applied-regular rec (a_quantifier q) vs at fresh p h = quantifier-regular q vs at fresh h
-  applied-regular rec a_back vs at fresh p h = error-regular fresh
-  applied-regular rec (a_method m) vs at fresh p h = error-regular fresh
+  applied-regular : (rec : Evaluator) (env : Environment) (v : Value) (vs : List Value) (at : Pos) (fresh : Fresh) → P v → AllByRecursion P vs → Regular fresh (λ n. applied c rec env v vs at (left_of n fresh))
+  applied-regular rec env (a_symbol f) vs at fresh p h = either-regular f (symbol_of c.theory.signature f) vs at fresh refl h
+  applied-regular rec env (a_connective q) vs at fresh p h = connective-regular q vs at fresh h
+  applied-regular rec env (a_term t r) vs at fresh p h = itself-regular (a_term t r) vs at fresh p
+  applied-regular rec env (a_sentence q) vs at fresh p h = itself-regular (a_sentence q) vs at fresh p
+  applied-regular rec env (a_quantifier q) vs at fresh p h = quantifier-regular q vs at fresh h
+  applied-regular rec env a_back vs at fresh p h = error-regular fresh
+  applied-regular rec env (a_method m) vs at fresh p h = error-regular fresh
 
   -- ---- names
   symbol_named-regular : (f : Sym) (o : Option Symbol) (at : Pos) (fresh : Fresh) → symbol_of c.theory.signature f ≡ o → P (a_symbol f) → Regular fresh (λ n. symbol_named c.theory.signature f o at (left_of n fresh))
@@ -276,113 +286,135 @@ module _ (c : Context) (env : Environment) (P : Value → Type 0) (Q : Sent → 
   ascribed-regular text v at fresh h = ascribed_to-regular text v at fresh h (term_of v) refl
 
   -- ---- methods
-  -- where the base holds a sentence
-  if_held-regular : (p : Sent) (go : Left → Outcome) (at : Pos) (fresh : Fresh) → (Q p → Regular fresh (λ n. go (left_of n fresh))) → (o : Option Entry) → holds env.base p ≡ o → Regular fresh (λ n. if_held o p go at (left_of n fresh))
-  if_held-regular p go at fresh h (Some e) is = let i = in-base env.base p e is in h (closed.renames e.sentence p i.1 (closed.held e.sentence i.0))
-  if_held-regular p go at fresh h None is = error-regular fresh
+  module _ (env : Environment) (sound : IsHolding Q env) where
+    -- where the base holds a sentence
+    if_held-regular : (p : Sent) (go : Left → Outcome) (at : Pos) (fresh : Fresh) → (Q p → Regular fresh (λ n. go (left_of n fresh))) → (o : Option Entry) → holds env.base p ≡ o → Regular fresh (λ n. if_held o p go at (left_of n fresh))
+    if_held-regular p go at fresh h (Some e) is = let i = in-base env.base p e is in h (closed.renames e.sentence p i.1 (sound e.sentence i.0))
+    if_held-regular p go at fresh h None is = error-regular fresh
 
-  claim-regular : (o : Option Sent) (at : Pos) (fresh : Fresh) → Regular fresh (λ n. claim env.base o at (left_of n fresh))
-  claim-regular None at fresh = error-regular fresh
-  claim-regular (Some p) at fresh = if_held-regular p (concludes p) at fresh (λ q. sentence-regular p fresh q) (holds env.base p) refl
+    claim-regular : (o : Option Sent) (at : Pos) (fresh : Fresh) → Regular fresh (λ n. claim env.base o at (left_of n fresh))
+    claim-regular None at fresh = error-regular fresh
+    claim-regular (Some p) at fresh = if_held-regular p (concludes p) at fresh (λ q. sentence-regular p fresh q) (holds env.base p) refl
 
-  detached-regular : (a b q : Sent) (at : Pos) (fresh : Fresh) → Regular fresh (λ n. detached env.base (joined If a b) a b q at (left_of n fresh))
-  detached-regular a b q at fresh = go (is_alpha_equal q a) refl
-    where
-      go : (s : Bool) → is_alpha_equal q a ≡ s → Regular fresh (λ n. (if s then if_held (holds env.base (joined If a b)) (joined If a b) (if_held (holds env.base q) q (concludes b) at) at else wrong_shape 2 at) (left_of n fresh))
-      go true f =
-          if_held-regular (joined If a b) (if_held (holds env.base q) q (concludes b) at) at fresh
-          (λ i. if_held-regular q (concludes b) at fresh (λ h. sentence-regular b fresh (closed.detaches a b i (closed.renames q a ((alpha_told q a).0 f) h))) (holds env.base q) refl)
-          (holds env.base (joined If a b)) refl
-      go false f = error-regular fresh
+    detached-regular : (a b q : Sent) (at : Pos) (fresh : Fresh) → Regular fresh (λ n. detached env.base (joined If a b) a b q at (left_of n fresh))
+    detached-regular a b q at fresh = go (is_alpha_equal q a) refl
+      where
+        go : (s : Bool) → is_alpha_equal q a ≡ s → Regular fresh (λ n. (if s then if_held (holds env.base (joined If a b)) (joined If a b) (if_held (holds env.base q) q (concludes b) at) at else wrong_shape 2 at) (left_of n fresh))
+        go true f =
+            if_held-regular (joined If a b) (if_held (holds env.base q) q (concludes b) at) at fresh
+            (λ i. if_held-regular q (concludes b) at fresh (λ h. sentence-regular b fresh (closed.detaches a b i (closed.renames q a ((alpha_told q a).0 f) h))) (holds env.base q) refl)
+            (holds env.base (joined If a b)) refl
+        go false f = error-regular fresh
 
-  modus-regular : (p : Sent) (o : Option Sent) (at : Pos) (fresh : Fresh) → Regular fresh (λ n. modus_ponens env.base p o at (left_of n fresh))
-  modus-regular (joined If a b) None at fresh = error-regular fresh
-  modus-regular (joined If a b) (Some q) at fresh = detached-regular a b q at fresh
-  modus-regular p o at fresh = error-regular fresh
+    modus-regular : (p : Sent) (o : Option Sent) (at : Pos) (fresh : Fresh) → Regular fresh (λ n. modus_ponens env.base p o at (left_of n fresh))
+    modus-regular (joined If a b) None at fresh = error-regular fresh
+    modus-regular (joined If a b) (Some q) at fresh = detached-regular a b q at fresh
+    modus-regular p o at fresh = error-regular fresh
 
-  mp-regular : (o u : Option Sent) (at : Pos) (fresh : Fresh) → Regular fresh (λ n. mp env.base o u at (left_of n fresh))
-  mp-regular None u at fresh = error-regular fresh
-  mp-regular (Some p) u at fresh = modus-regular p u at fresh
+    mp-regular : (o u : Option Sent) (at : Pos) (fresh : Fresh) → Regular fresh (λ n. mp env.base o u at (left_of n fresh))
+    mp-regular None u at fresh = error-regular fresh
+    mp-regular (Some p) u at fresh = modus-regular p u at fresh
 
-  claimed-regular : (vs : List Value) (at : Pos) (fresh : Fresh) → Regular fresh (λ n. claimed env.base vs at (left_of n fresh))
-  claimed-regular (v ∷ []) at fresh = claim-regular (sentence_of v) at fresh
-  claimed-regular vs at fresh = error-regular fresh
+    claimed-regular : (vs : List Value) (at : Pos) (fresh : Fresh) → Regular fresh (λ n. claimed env.base vs at (left_of n fresh))
+    claimed-regular (v ∷ []) at fresh = claim-regular (sentence_of v) at fresh
+    claimed-regular vs at fresh = error-regular fresh
 
-  ponens-regular : (vs : List Value) (at : Pos) (fresh : Fresh) → Regular fresh (λ n. ponens env.base vs at (left_of n fresh))
-  ponens-regular (v ∷ w ∷ []) at fresh = mp-regular (sentence_of v) (sentence_of w) at fresh
-  ponens-regular vs at fresh = error-regular fresh
+    ponens-regular : (vs : List Value) (at : Pos) (fresh : Fresh) → Regular fresh (λ n. ponens env.base vs at (left_of n fresh))
+    ponens-regular (v ∷ w ∷ []) at fresh = mp-regular (sentence_of v) (sentence_of w) at fresh
+    ponens-regular vs at fresh = error-regular fresh
 
-  called-regular : (rec : Evaluator) (v : Value) (vs : List Value) (at : Pos) (fresh : Fresh) → Regular fresh (λ n. called c rec env v vs at (left_of n fresh))
-  called-regular rec (a_method m) vs at fresh = go (m == 0)
-    where
-      go : (b : Bool) → Regular fresh (λ n. (if b then claimed env.base vs else ponens env.base vs) at (left_of n fresh))
-      go true = claimed-regular vs at fresh
-      go false = ponens-regular vs at fresh
-  called-regular rec v vs at fresh = error-regular fresh
+    called-regular : (rec : Evaluator) (v : Value) (vs : List Value) (at : Pos) (fresh : Fresh) → Regular fresh (λ n. called c rec env v vs at (left_of n fresh))
+    called-regular rec (a_method m) vs at fresh = go (m == 0)
+      where
+        go : (b : Bool) → Regular fresh (λ n. (if b then claimed env.base vs else ponens env.base vs) at (left_of n fresh))
+        go true = claimed-regular vs at fresh
+        go false = ponens-regular vs at fresh
+    called-regular rec v vs at fresh = error-regular fresh
 
   -- ---- what goes on after a part
-  abbrev Goes : (Value → Left → Outcome) → Type 0
-  Goes go = (v : Value) (made : Fresh) → P v → Regular made (λ n. go v (left_of n made))
+  abbrev Goes : (Environment → Value → Left → Outcome) → Type 0
+  Goes go = (env : Environment) → IsHolding Q env → (v : Value) (made : Fresh) → P v → Regular made (λ n. go env v (left_of n made))
 
-  then-yields : (o : Outcome) (go : Value → Left → Outcome) → Goes go → Yields P Q o → Yields P Q (and_then o go)
-  then-yields (gives v left) go g h = (g v left.fresh h).yields left.fuel
-  then-yields (concludes p left) go g h = (g (value_of p) left.fresh (closed.shown p h)).yields left.fuel
-  then-yields (fails at why left) go g h = tt
-  then-yields (exhausts at made) go g h = tt
+  module _ (env : Environment) (sound : IsHolding Q env) (go : Environment → Value → Left → Outcome) (g : Goes go) where
+    after-value : (v : Value) (made : Fresh) → P v → Regular made (λ n. go env v (left_of n made))
+    after-value v made h = g env sound v made h
 
-  then-moves : (n : ℕ) (fresh : Fresh) (o : Outcome) (go : Value → Left → Outcome) → Goes go → Yields P Q o → Spends (left_of n fresh) o → Spends (left_of n fresh) (and_then o go)
-  then-moves n fresh (gives v left) go g h e = rises left.fuel n fresh left.fresh (go v left) e.0 (e.1, e.2) ((g v left.fresh h).moves left.fuel)
-  then-moves n fresh (concludes p left) go g h e = rises left.fuel n fresh left.fresh (go (value_of p) left) e.0 (e.1, e.2) ((g (value_of p) left.fresh (closed.shown p h)).moves left.fuel)
-  then-moves n fresh (fails at why left) go g h e = e
-  then-moves n fresh (exhausts at made) go g h e = e
+    after-conclusion : (p : Sent) (made : Fresh) → Q p → Regular made (λ n. go (concluding p env) (value_of p) (left_of n made))
+    after-conclusion p made h = g (concluding p env) (holding-more Q env p sound h) (value_of p) made (closed.shown p h)
 
-  then-kept : (k : ℕ) (o r : Outcome) (go : Value → Left → Outcome) → Goes go → Yields P Q o → (IsNotSpent o → r ≡ with_more k o) → IsNotSpent (and_then o go) → and_then r go ≡ with_more k (and_then o go)
-  then-kept k (gives v left) r go g h e s = ap (λ t. and_then t go) (e (gives-not-spent v left)) ∙ (g v left.fresh h).kept left.fuel k s
-  then-kept k (concludes p left) r go g h e s = ap (λ t. and_then t go) (e (concludes-not-spent p left)) ∙ (g (value_of p) left.fresh (closed.shown p h)).kept left.fuel k s
-  then-kept k (fails at why left) r go g h e s = ap (λ t. and_then t go) (e (fails-not-spent at why left))
-  then-kept k (exhausts at made) r go g h e s = absurd (s at made refl)
+    then-yields : (o : Outcome) → Yields P Q o → Yields P Q (then_in env o go)
+    then-yields (gives v left) h = (after-value v left.fresh h).yields left.fuel
+    then-yields (concludes p left) h = (after-conclusion p left.fresh h).yields left.fuel
+    then-yields (fails at why left) h = tt
+    then-yields (exhausts at made) h = tt
+
+    then-moves : (n : ℕ) (fresh : Fresh) (o : Outcome) → Yields P Q o → Spends (left_of n fresh) o → Spends (left_of n fresh) (then_in env o go)
+    then-moves n fresh (gives v left) h e = rises left.fuel n fresh left.fresh (go env v left) e.0 (e.1, e.2) ((after-value v left.fresh h).moves left.fuel)
+    then-moves n fresh (concludes p left) h e = rises left.fuel n fresh left.fresh (go (concluding p env) (value_of p) left) e.0 (e.1, e.2) ((after-conclusion p left.fresh h).moves left.fuel)
+    then-moves n fresh (fails at why left) h e = e
+    then-moves n fresh (exhausts at made) h e = e
+
+    then-kept : (k : ℕ) (o r : Outcome) → Yields P Q o → (IsNotSpent o → r ≡ with_more k o) → IsNotSpent (then_in env o go) → then_in env r go ≡ with_more k (then_in env o go)
+    then-kept k (gives v left) r h e s = ap (λ t. then_in env t go) (e (gives-not-spent v left)) ∙ (after-value v left.fresh h).kept left.fuel k s
+    then-kept k (concludes p left) r h e s = ap (λ t. then_in env t go) (e (concludes-not-spent p left)) ∙ (after-conclusion p left.fresh h).kept left.fuel k s
+    then-kept k (fails at why left) r h e s = ap (λ t. then_in env t go) (e (fails-not-spent at why left))
+    then-kept k (exhausts at made) r h e s = absurd (s at made refl)
 
   one-more : (left : ℕ) (made bound : Fresh) → IsBelow (charged left made) bound → IsBelow (charged (left + 1) made) (charged 1 bound)
   one-more left made bound h = (omega (arith, h.0), omega (arith, h.1))
 
-  then-room : (bound : Fresh) (o : Outcome) (go : Value → Left → Outcome) → Goes go → Yields P Q o → Narrow → StaysWithin bound o → StaysWithin (charged 1 bound) (and_then o go)
-  then-room bound (gives v left) go g h w e = wider (charged (left.fuel + 1) left.fresh) (charged 1 bound) (go v left) (one-more left.fuel left.fresh bound e) ((g v left.fresh h).room w left.fuel)
-  then-room bound (concludes p left) go g h w e = wider (charged (left.fuel + 1) left.fresh) (charged 1 bound) (go (value_of p) left) (one-more left.fuel left.fresh bound e) ((g (value_of p) left.fresh (closed.shown p h)).room w left.fuel)
-  then-room bound (fails at why left) go g h w e = below-through (charged left.fuel left.fresh) bound (charged 1 bound) e (few-same bound)
-  then-room bound (exhausts at made) go g h w e = below-through made bound (charged 1 bound) e (few-same bound)
+  then-room : (env : Environment) → IsHolding Q env → (go : Environment → Value → Left → Outcome) → Goes go → (bound : Fresh) (o : Outcome) → Yields P Q o → Narrow → StaysWithin bound o → StaysWithin (charged 1 bound) (then_in env o go)
+  then-room env sound go g bound (gives v left) h w e = wider (charged (left.fuel + 1) left.fresh) (charged 1 bound) (go env v left) (one-more left.fuel left.fresh bound e) ((after-value env sound go g v left.fresh h).room w left.fuel)
+  then-room env sound go g bound (concludes p left) h w e =
+      wider (charged (left.fuel + 1) left.fresh) (charged 1 bound) (go (concluding p env) (value_of p) left) (one-more left.fuel left.fresh bound e) ((after-conclusion env sound go g p left.fresh h).room w left.fuel)
+  then-room env sound go g bound (fails at why left) h w e = below-through (charged left.fuel left.fresh) bound (charged 1 bound) e (few-same bound)
+  then-room env sound go g bound (exhausts at made) h w e = below-through made bound (charged 1 bound) e (few-same bound)
 
   -- a phrase takes no more than its fuel allows
   abbrev Thrifty : Fresh → (ℕ → Outcome) → Type 0
   Thrifty fresh f = IsRegular c.theory.signature P Q 0 fresh f
 
-  then-regular : (fresh : Fresh) (f : ℕ → Outcome) (go : Value → Left → Outcome) → Thrifty fresh f → Goes go → Regular fresh (λ n. and_then (f n) go)
-  then-regular fresh f go h g = record {
-    yields = λ n. then-yields (f n) go g (h.yields n);
-    moves = λ n. then-moves n fresh (f n) go g (h.yields n) (h.moves n);
-    kept = λ n k s. then-kept k (f n) (f (n + k)) go g (h.yields n) (h.kept n k) s;
-    room = λ w n. wider (charged 1 (charged n fresh)) (charged (n + 1) fresh) (and_then (f n) go) (omega arith, omega arith)
-        (then-room (charged n fresh) (f n) go g (h.yields n) w (wider (charged (n + 0) fresh) (charged n fresh) (f n) (omega arith, omega arith) (h.room w n)));
+  then_in-regular : (env : Environment) → IsHolding Q env → (fresh : Fresh) (f : ℕ → Outcome) (go : Environment → Value → Left → Outcome) → Thrifty fresh f → Goes go → Regular fresh (λ n. then_in env (f n) go)
+  then_in-regular env sound fresh f go h g = record {
+    yields = λ n. then-yields env sound go g (f n) (h.yields n);
+    moves = λ n. then-moves env sound go g n fresh (f n) (h.yields n) (h.moves n);
+    kept = λ n k s. then-kept env sound go g k (f n) (f (n + k)) (h.yields n) (h.kept n k) s;
+    room = λ w n. wider (charged 1 (charged n fresh)) (charged (n + 1) fresh) (then_in env (f n) go) (omega arith, omega arith)
+        (then-room env sound go g (charged n fresh) (f n) (h.yields n) w (wider (charged (n + 0) fresh) (charged n fresh) (f n) (omega arith, omega arith) (h.room w n)));
   }
 
-  abbrev Evaluates : Evaluator → Type 0
-  Evaluates rec = (x : Phrase) (fresh : Fresh) → Thrifty fresh (λ n. rec env x (left_of n fresh))
+  -- what goes on in the same environment whatever the part was
+  then-same : (env : Environment) (o : Outcome) (go : Value → Left → Outcome) → then_in env o (λ e. go) ≡ and_then o go
+  then-same env (gives v left) go = refl
+  then-same env (concludes p left) go = refl
+  then-same env (fails at why left) go = refl
+  then-same env (exhausts at made) go = refl
 
-  each-regular : (rec : Evaluator) → Evaluates rec → (go : List Value → Left → Outcome) → ((vs : List Value) (made : Fresh) → AllByRecursion P vs → Regular made (λ n. go vs (left_of n made))) → (xs : Phrases) (done : List Value) (fresh : Fresh) → AllByRecursion P done → Regular fresh (λ n. each (rec env) done xs go (left_of n fresh))
-  each-regular rec r go g no_phrases done fresh h = g done fresh h
-  each-regular rec r go g (more_phrases x xs) done fresh h = then-regular fresh (λ n. rec env x (left_of n fresh)) (λ v. each (rec env) (done ++ v ∷ []) xs go) (r x fresh) (λ v made p. each-regular rec r go g xs (done ++ v ∷ []) made (all-last P done v h p))
+  then-regular : (env : Environment) → IsHolding Q env → (fresh : Fresh) (f : ℕ → Outcome) (go : Value → Left → Outcome) → Thrifty fresh f → ((v : Value) (made : Fresh) → P v → Regular made (λ n. go v (left_of n made))) → Regular fresh (λ n. and_then (f n) go)
+  then-regular env sound fresh f go h g = subst (Regular fresh) (λ i n. then-same env (f n) go i) (then_in-regular env sound fresh f (λ e. go) h (λ e s. g))
+
+  abbrev Evaluates : Evaluator → Type 0
+  Evaluates rec = (env : Environment) → IsHolding Q env → (x : Phrase) (fresh : Fresh) → Thrifty fresh (λ n. rec env x (left_of n fresh))
+
+  each-regular : (rec : Evaluator) → Evaluates rec → (go : Environment → List Value → Left → Outcome) → ((env : Environment) → IsHolding Q env → (vs : List Value) (made : Fresh) → AllByRecursion P vs → Regular made (λ n. go env vs (left_of n made)))
+      → (xs : Phrases) (env : Environment) → IsHolding Q env → (done : List Value) (fresh : Fresh) → AllByRecursion P done → Regular fresh (λ n. each rec env done xs go (left_of n fresh))
+  each-regular rec r go g no_phrases env sound done fresh h = g env sound done fresh h
+  each-regular rec r go g (more_phrases x xs) env sound done fresh h =
+      then_in-regular env sound fresh (λ n. rec env x (left_of n fresh)) (λ after v. each rec after (done ++ v ∷ []) xs go) (r env sound x fresh)
+      (λ after s v made p. each-regular rec r go g xs after s (done ++ v ∷ []) made (all-last P done v h p))
 
   -- ---- forms and phrases
-  form-regular : (rec : Evaluator) → Evaluates rec → (x : Phrase) (fresh : Fresh) → Regular fresh (λ n. form c rec env x (left_of n fresh))
-  form-regular rec r (name_at p x) fresh = found-regular x p fresh (looked_up c.names c.theory.signature x) refl
-  form-regular rec r (variable_at p x k s) fresh = variable-regular x k s p fresh
-  form-regular rec r (ascribe_at p x s) fresh = then-regular fresh (λ n. rec env x (left_of n fresh)) (λ v. ascribed c s v p) (r x fresh) (λ v made h. ascribed-regular s v p made h)
-  form-regular rec r (apply_at p f xs) fresh =
-      then-regular fresh (λ n. rec env f (left_of n fresh)) (λ v. each (rec env) [] xs (λ vs. applied c rec env v vs p)) (r f fresh)
-      (λ v made h. each-regular rec r (λ vs. applied c rec env v vs p) (λ vs last a. applied-regular rec v vs p last h a) xs [] made tt)
-  form-regular rec r (call_at p f xs) fresh =
-      then-regular fresh (λ n. rec env f (left_of n fresh)) (λ v. each (rec env) [] xs (λ vs. called c rec env v vs p)) (r f fresh)
-      (λ v made h. each-regular rec r (λ vs. called c rec env v vs p) (λ vs last a. called-regular rec v vs p last) xs [] made tt)
-  form-regular rec r x fresh = error-regular fresh
+  form-regular : (rec : Evaluator) → Evaluates rec → (env : Environment) → IsHolding Q env → (x : Phrase) (fresh : Fresh) → Regular fresh (λ n. form c rec env x (left_of n fresh))
+  form-regular rec r env sound (name_at p x) fresh = found-regular x p fresh (looked_up c.names c.theory.signature x) refl
+  form-regular rec r env sound (variable_at p x k s) fresh = variable-regular x k s p fresh
+  form-regular rec r env sound (ascribe_at p x s) fresh = then-regular env sound fresh (λ n. rec env x (left_of n fresh)) (λ v. ascribed c s v p) (r env sound x fresh) (λ v made h. ascribed-regular s v p made h)
+  form-regular rec r env sound (apply_at p f xs) fresh =
+      then-regular env sound fresh (λ n. rec env f (left_of n fresh)) (λ v. each rec env [] xs (λ after vs. applied c rec after v vs p)) (r env sound f fresh)
+      (λ v made h. each-regular rec r (λ after vs. applied c rec after v vs p) (λ after s vs last a. applied-regular rec after v vs p last h a) xs env sound [] made tt)
+  form-regular rec r env sound (call_at p f xs) fresh =
+      then-regular env sound fresh (λ n. rec env f (left_of n fresh)) (λ v. each rec env [] xs (λ after vs. called c rec after v vs p)) (r env sound f fresh)
+      (λ v made h. each-regular rec r (λ after vs. called c rec after v vs p) (λ after s vs last a. called-regular after s rec v vs p last) xs env sound [] made tt)
+  form-regular rec r env sound x fresh = error-regular fresh
 
   -- a step is taken before what goes on
   module _ (at : Pos) (go : Left → Outcome) (fresh : Fresh) (h : Regular fresh (λ n. go (left_of n fresh))) where
@@ -405,7 +437,7 @@ module _ (c : Context) (env : Environment) (P : Value → Type 0) (Q : Sent → 
     spent-regular : Thrifty fresh (λ n. spending n fresh at go)
     spent-regular = record { yields = spent-yields; moves = spent-moves; kept = spent-kept; room = spent-room }
 
-  pub evaluated-regular : (levels : ℕ) (x : Phrase) (fresh : Fresh) → IsRegular c.theory.signature P Q 0 fresh (λ n. evaluated c levels env x (left_of n fresh))
-  evaluated-regular zero x fresh = spent-regular (place x) (fails (place x) (refusal TooNested [])) fresh (error-regular fresh)
-  evaluated-regular (suc levels) x fresh =
-      spent-regular (place x) (form c (evaluated c levels) env x) fresh (form-regular (evaluated c levels) (λ y made. evaluated-regular levels y made) x fresh)
+  pub evaluated-regular : (levels : ℕ) (env : Environment) → IsHolding Q env → (x : Phrase) (fresh : Fresh) → IsRegular c.theory.signature P Q 0 fresh (λ n. evaluated c levels env x (left_of n fresh))
+  evaluated-regular zero env sound x fresh = spent-regular (place x) (fails (place x) (refusal TooNested [])) fresh (error-regular fresh)
+  evaluated-regular (suc levels) env sound x fresh =
+      spent-regular (place x) (form c (evaluated c levels) env x) fresh (form-regular (evaluated c levels) (λ e s y made. evaluated-regular levels e s y made) env sound x fresh)

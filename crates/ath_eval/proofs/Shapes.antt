@@ -13,12 +13,12 @@ use Rattle.ath_syntax.specs.Tree.{Phrase, ascribe_at, apply_at, call_at, Phrases
 use Rattle.ath_syntax.specs.Stands.{IsPhrase, IsForm, is_name, is_variable, is_string, is_list, is_ascribe, is_apply, is_call, is_lambda, is_method, is_let, is_letrec, is_match, is_check, is_try, is_seq, is_assume, is_absurd, is_pick_any, is_pick_witness, is_induct, is_cases, is_conclude, ArePhrases, phrases_none}
 use Rattle.ath_syntax.proofs.NodeLaws.{node_of, node_at, form_of}
 use Rattle.ath_env.specs.LookUp.{looked_up}
-use Rattle.ath_eval.specs.Evaluation.{found, variable, unbuilt}
+use Rattle.ath_eval.specs.Evaluation.{found, variable, unbuilt, evaluated}
 use Rattle.ath_syntax.specs.Places.{place}
 use Rattle.ath_eval.specs.declared.frame.Use.{Use}
 use Rattle.ath_eval.specs.declared.frame.Use.TheVariants as uses
-use Rattle.ath_eval.specs.Machine.{Scope, evaluates, forms, used, acts, form_arguments, node_arguments, arguments_at}
-use Rattle.ath_eval.specs.Outcomes.{Left, and_then, each}
+use Rattle.ath_eval.specs.Machine.{forms, used, acts, form_arguments, node_arguments, arguments_at}
+use Rattle.ath_eval.specs.Outcomes.{Context, Environment, Left, and_then, each}
 
 -- the arguments of a phrase, where it has some
 abbrev arguments : Phrase → Phrases
@@ -77,20 +77,20 @@ module _ (nodes : Nodes) where
   pub ascription_form : (p q : Pos) (f : Form) (x : Phrase) (s : SortText) → IsForm nodes p f (ascribe_at q x s) → (j : PhraseId) × (f ≡ Ascribe j s) × (p ≡ q)
   ascription_form p q f x s (is_ascribe {i = j} h) = (j, refl, refl)
 
-  module _ (c : Scope) (levels : ℕ) where
-    pub form_name : (p : Pos) (f : Form) (x : Phrase) (n : Sym) → f ≡ Name n → IsForm nodes p f x → forms c levels x ≡ found c.context n p (looked_up c.context.names c.context.theory.signature n)
+  module _ (c : Context) (levels : ℕ) (env : Environment) where
+    pub form_name : (p : Pos) (f : Form) (x : Phrase) (n : Sym) → f ≡ Name n → IsForm nodes p f x → forms c levels env x ≡ found c n p (looked_up c.names c.theory.signature n)
     form_name p f x n e h = go x (subst (λ (y : Form). IsForm nodes p y x) e h)
       where
-        go : (x : Phrase) → IsForm nodes p (Name n) x → forms c levels x ≡ found c.context n p (looked_up c.context.names c.context.theory.signature n)
+        go : (x : Phrase) → IsForm nodes p (Name n) x → forms c levels env x ≡ found c n p (looked_up c.names c.theory.signature n)
         go x is_name = refl
 
-    pub form_variable : (p : Pos) (f : Form) (x : Phrase) (n : Sym) (k : ℕ) (s : Option SortText) → f ≡ Var n k s → IsForm nodes p f x → forms c levels x ≡ variable c.context n k s p
+    pub form_variable : (p : Pos) (f : Form) (x : Phrase) (n : Sym) (k : ℕ) (s : Option SortText) → f ≡ Var n k s → IsForm nodes p f x → forms c levels env x ≡ variable c n k s p
     form_variable p f x n k s e h = go x (subst (λ (y : Form). IsForm nodes p y x) e h)
       where
-        go : (x : Phrase) → IsForm nodes p (Var n k s) x → forms c levels x ≡ variable c.context n k s p
+        go : (x : Phrase) → IsForm nodes p (Var n k s) x → forms c levels env x ≡ variable c n k s p
         go x is_variable = refl
 
-    pub form_other : (p : Pos) (f : Form) (x : Phrase) → ((n : Sym) → f ≡ Name n → ⊥) → ((n : Sym) (k : ℕ) (s : Option SortText) → f ≡ Var n k s → ⊥) → ((j : PhraseId) (s : SortText) → f ≡ Ascribe j s → ⊥) → ((j : PhraseId) (is : List PhraseId) → f ≡ Apply j is → ⊥) → ((j : PhraseId) (is : List PhraseId) → f ≡ Call j is → ⊥) → IsForm nodes p f x → forms c levels x ≡ unbuilt p
+    pub form_other : (p : Pos) (f : Form) (x : Phrase) → ((n : Sym) → f ≡ Name n → ⊥) → ((n : Sym) (k : ℕ) (s : Option SortText) → f ≡ Var n k s → ⊥) → ((j : PhraseId) (s : SortText) → f ≡ Ascribe j s → ⊥) → ((j : PhraseId) (is : List PhraseId) → f ≡ Apply j is → ⊥) → ((j : PhraseId) (is : List PhraseId) → f ≡ Call j is → ⊥) → IsForm nodes p f x → forms c levels env x ≡ unbuilt p
     form_other p f x nn nv ns na nc (is_name {x = n}) = absurd (nn n refl)
     form_other p f x nn nv ns na nc (is_variable {x = n} {k = k} {o = s}) = absurd (nv n k s refl)
     form_other p f x nn nv ns na nc is_string = refl
@@ -128,7 +128,7 @@ module _ (nodes : Nodes) where
     abbrev pub HeadOf : Use → PhraseId → Phrase → Type 0
     HeadOf u j x =
         (p : Pos) × (h : Phrase) × (xs : Phrases) × (x ≡ used u p h xs) × IsPhrase nodes j h
-        × ((left : Left) → forms c levels x left ≡ and_then (evaluates c levels h left) (λ v. each (evaluates c levels) [] xs (acts c levels u p v)))
+        × ((left : Left) → forms c levels env x left ≡ and_then (evaluated c levels env h left) (λ v. each (evaluated c levels) env [] xs (acts c levels u p v)))
 
     pub head_applied : (p : Pos) (f : Form) (x : Phrase) (j : PhraseId) (is : List PhraseId) → f ≡ Apply j is → IsForm nodes p f x → HeadOf uses.Apply j x
     head_applied p f x j is e h = go x (subst (λ (y : Form). IsForm nodes p y x) e h)

@@ -42,8 +42,8 @@ use Rattle.ath_construction.proofs.SortedLaws.{IsSorted, own-sort, ascription-so
 use Rattle.ath_eval.proofs.Constructed.{IsSortedPart, joined-sorted, IsSortedVariable, variable-sorted, bound-sorted}
 
 -- ---- conclusions
-follows : (c : Context) (env : Environment) (asserted hyps : List Sent) → AreDerivable c.theory asserted hyps (sentences env.base) → IsKept c env (λ v. Unit {0}) (Derives c.theory asserted hyps)
-follows c env asserted hyps sound = record {
+follows : (c : Context) (asserted hyps : List Sent) → IsKept c (λ v. Unit {0}) (Derives c.theory asserted hyps)
+follows c asserted hyps = record {
   shown = λ p h. tt;
   named = λ x v e. tt;
   unsorted = λ x k n. tt;
@@ -53,14 +53,13 @@ follows c env asserted hyps sound = record {
   equates = λ v w s t x h k e f b. tt;
   connects = λ k vs xs x h e b. tt;
   quantifies = λ q vs w xs y x h p e f b. tt;
-  held = sound;
   renames = λ p q e d. alpha e d;
   detaches = λ p q d e. if_elim d e;
 }
 
 pub conclusions-follow : ConclusionsFollow
 conclusions-follow = λ c env asserted hyps levels x left after q sound e.
-    subst (Yields (λ v. Unit {0}) (Derives c.theory asserted hyps)) e ((evaluated-regular c env (λ v. Unit {0}) (Derives c.theory asserted hyps) (follows c env asserted hyps sound) levels x left.fresh).yields left.fuel)
+    subst (Yields (λ v. Unit {0}) (Derives c.theory asserted hyps)) e ((evaluated-regular c (λ v. Unit {0}) (Derives c.theory asserted hyps) (follows c asserted hyps) levels env sound x left.fresh).yields left.fuel)
 
 -- a theorem that the code gives is derivable
 pub theorem-derivable : (c : Context) (env : Environment) (asserted hyps : List Sent) (levels : ℕ) (x : Phrase) (fuel more : ℕ) (fresh made : Fresh) (s : Trees) (o : code.Outcome) → AreDerivable c.theory asserted hyps (sentences env.base) → IsOutcome s more made o (evaluated c levels env x (left_of fuel fresh)) → IsDerivable c.theory asserted hyps s o
@@ -119,7 +118,7 @@ found-sorted : (names : List (List ℕ)) (sig : Signature) (x : Sym) (o : Option
 found-sorted names sig x (Some d) v f = let k : a_symbol x ≡ v = cc in subst (IsSortedValue sig) k tt
 found-sorted names sig x None v f = lookup-sorted sig (bytes_eq (text_of names x)) first_values v (first-sorted sig) f
 
-module _ (c : Context) (env : Environment) (asserted hyps : List Sent) (valid : IsValid c.theory.signature) (there : arity_of c.theory.signature (record { 0 = 0 }) ≡ Some 0) (sound : AreDerivable c.theory asserted hyps (sentences env.base)) where
+module _ (c : Context) (asserted hyps : List Sent) (valid : IsValid c.theory.signature) (there : arity_of c.theory.signature (record { 0 = 0 }) ≡ Some 0) where
   abbrev Sorted : Value → Type 0
   Sorted v = IsSortedValue c.theory.signature v
 
@@ -157,7 +156,7 @@ module _ (c : Context) (env : Environment) (asserted hyps : List Sent) (valid : 
   meant-valid : (text : SortText) (s : Sort) → meaning c.theory.signature text ≡ Ok s → is_valid_sort c.theory.signature s ≡ true
   meant-valid text s e = use_valid c.theory.signature (written_in s) s (meant_sort c.theory.signature text s e).there
 
-  sorted : IsKept c env Sorted (Derives c.theory asserted hyps)
+  sorted : IsKept c Sorted (Derives c.theory asserted hyps)
   sorted = record {
     shown = λ p d. sorted-value c.theory.signature p (well_sorted d);
     named = λ x v e. found-sorted c.names c.theory.signature x (symbol_of c.theory.signature x) v e;
@@ -168,15 +167,14 @@ module _ (c : Context) (env : Environment) (asserted hyps : List Sent) (valid : 
     equates = λ v w s t x h k e f b. equation-sorted c.theory.signature valid there s t x (term-of v s h e) (term-of w t k f) b;
     connects = λ k vs xs x h e b. joined-sorted c.theory.signature valid there k xs x (all-of part_of Sorted HasOwnPart part-of 1 vs xs h e).0 b;
     quantifies = λ q vs w xs y x h p e f b. bound-sorted c.theory.signature valid there q xs y x (all-of variable_in Sorted (IsSortedVariable c.theory.signature) (variable-sorted c.theory.signature) 1 vs xs h e).0 (part-of w y p f) b;
-    held = sound;
-    renames = λ p q e d. alpha e d;
+      renames = λ p q e d. alpha e d;
     detaches = λ p q d e. if_elim d e;
   }
 
 pub values-sorted : ValuesAreSorted
 values-sorted = λ c env asserted hyps levels x left after v valid there sound e.
     let sig = c.theory.signature in
-    subst (Yields (IsSortedValue sig) (Derives c.theory asserted hyps)) e ((evaluated-regular c env (IsSortedValue sig) (Derives c.theory asserted hyps) (sorted c env asserted hyps valid there sound) levels x left.fresh).yields left.fuel)
+    subst (Yields (IsSortedValue sig) (Derives c.theory asserted hyps)) e ((evaluated-regular c (IsSortedValue sig) (Derives c.theory asserted hyps) (sorted c asserted hyps valid there) levels env sound x left.fresh).yields left.fuel)
 
 -- the sentence that a well-sorted value is, is well-sorted
 pub sentence-sorted : (sig : Signature) (v : Value) (p : Sent) → IsSortedValue sig v → sentence_of v ≡ Some p → IsWellSorted sig p

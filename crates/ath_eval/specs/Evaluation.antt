@@ -59,13 +59,14 @@ ascribed c text v = ascribed_to c text (term_of v)
 abbrev pub unbuilt : Pos → Left → Outcome
 unbuilt at = fails at (refusal NotBuilt [])
 
--- the outcome of a form, where its parts are evaluated so: the head first, then the arguments from the left
+-- the outcome of a form, where its parts are evaluated so: the head first, then the arguments from the left. An argument of a
+-- call may be a deduction; one of an application is an expression
 abbrev pub form : Context → Evaluator → Environment → Phrase → Left → Outcome
 form c rec env (name_at p x) left = found c x p (looked_up c.names c.theory.signature x) left
 form c rec env (variable_at p x k s) left = variable c x k s p left
 form c rec env (ascribe_at p x s) left = and_then (rec env x left) (λ v. ascribed c s v p)
-form c rec env (apply_at p f xs) left = and_then (rec env f left) (λ v. each (rec env) [] xs (λ vs. applied c rec env v vs p))
-form c rec env (call_at p f xs) left = and_then (rec env f left) (λ v. each (rec env) [] xs (λ vs. called c rec env v vs p))
+form c rec env (apply_at p f xs) left = and_then (rec env f left) (λ v. each rec env [] xs (λ after vs. applied c rec after v vs p))
+form c rec env (call_at p f xs) left = and_then (rec env f left) (λ v. each rec env [] xs (λ after vs. called c rec after v vs p))
 form c rec env (string_at p s) left = unbuilt p left
 form c rec env (list_at p xs) left = unbuilt p left
 form c rec env (lambda_at p xs x) left = unbuilt p left

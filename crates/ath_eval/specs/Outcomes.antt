@@ -6,6 +6,7 @@ use Rattle.ath_trees.specs.Tree.{Sent}
 use Rattle.ath_terms.specs.declared.fresh.Fresh.{Fresh}
 use Rattle.ath_calculus.specs.Theory.{Theory}
 use Rattle.ath_base.specs.Base.{Entry}
+use Rattle.ath_base.specs.declared.entry.Origin.TheVariants.{Concluded}
 use Rattle.ath_env.specs.Values.{Value, value_of}
 use Rattle.ath_print.specs.declared.fault.FaultKind.{FaultKind}
 use Rattle.ath_print.specs.Events.{Argument, Refusal}
@@ -63,7 +64,19 @@ and_then (concludes p left) go = go (value_of p) left
 and_then (fails at why left) go = fails at why left
 and_then (exhausts at fresh) go = exhausts at fresh
 
--- the values of the parts from left to right, after those that are done
-abbrev pub each : (Phrase → Left → Outcome) → List Value → Phrases → (List Value → Left → Outcome) → Left → Outcome
-each rec done no_phrases go left = go done left
-each rec done (more_phrases x xs) go left = and_then (rec x left) (λ v. each rec (done ++ v ∷ []) xs go)
+-- the environment whose base has a conclusion more
+abbrev pub concluding : Sent → Environment → Environment
+concluding p env = record env { base = record { sentence = p; origin = Concluded } ∷ env.base }
+
+-- goes on likewise, and with the environment for what comes after the part: the conclusion of a deduction joins its base
+abbrev pub then_in : Environment → Outcome → (Environment → Value → Left → Outcome) → Outcome
+then_in env (gives v left) go = go env v left
+then_in env (concludes p left) go = go (concluding p env) (value_of p) left
+then_in env (fails at why left) go = fails at why left
+then_in env (exhausts at fresh) go = exhausts at fresh
+
+-- the values of the parts from left to right, after those that are done, each part in the environment that the one before it
+-- leaves; what is made of them has the environment that the last one leaves
+abbrev pub each : Evaluator → Environment → List Value → Phrases → (Environment → List Value → Left → Outcome) → Left → Outcome
+each rec env done no_phrases go left = go env done left
+each rec env done (more_phrases x xs) go left = then_in env (rec env x left) (λ after v. each rec after (done ++ v ∷ []) xs go)

@@ -10,15 +10,21 @@ use Rattle.ath_print.specs.Stands.{IsFault}
 use Rattle.ath_eval.specs.declared.world.World.{World}
 use Rattle.ath_eval.specs.declared.world.Outcome as code
 use Rattle.ath_eval.specs.declared.world.Outcome.TheVariants as ends
-use Rattle.ath_base.specs.Stands.{entries_of}
+use Rattle.ath_base.specs.Base.{Entry}
+use Rattle.ath_base.specs.Stands.{entries_in, entries_of, KeepsScopes}
 use Rattle.ath_eval.specs.Outcomes.{Context, Environment, no_bindings, Left, left_of, Outcome, gives, concludes, fails, exhausts}
 use Rattle.ath_eval.specs.Room.{charged, IsBelow, IsRoomy}
 
 abbrev pub context_of : World → Context
 context_of w = record { names = w.names; theory = theory_of w.sig }
 
+-- the environment with this base
+abbrev pub with_base : List Entry → Environment
+with_base es = record { bindings = no_bindings; base = es }
+
+-- the environment of the world's scope
 abbrev pub environment_of : World → Environment
-environment_of w = record { bindings = no_bindings; base = entries_of w.store w.base.entries.items }
+environment_of w = with_base (entries_of w.store (entries_in w.base.nodes.items w.scope.0))
 
 abbrev pub left_in : World → Left
 left_in w = left_of w.fuel w.fresh
@@ -50,23 +56,32 @@ IsAnswerIn old new o answer = IsAnswer new.store old.fresh new.fresh o answer
 abbrev pub IsSteady : Trees → code.Outcome → (Left → Outcome) → Type 0
 IsSteady s o answer = (fresh : Fresh) → IsAnswer s fresh fresh o answer
 
--- the world after an evaluation: its store has grown, its fuel and counters have moved, and all else is as it was
+-- the world after an evaluation: its store has grown, its fuel and counters have moved, scopes were added and the scope may
+-- be another, and all else is as it was
 pub record Evaluates (old new : World) : Type 0 where
   pub grows : Grows old.store new.store
   pub names : new.names ≡ old.names
   pub signature : new.sig ≡ old.sig
-  pub base : new.base.entries.items ≡ old.base.entries.items
+  pub base : KeepsScopes old.base.nodes.items new.base.nodes.items
   pub phrases : new.phrases ≡ old.phrases
 
 -- the world after what one step does, besides its fuel
+pub record Passes (old new : World) : Type 0 where
+  pub world : Evaluates old new
+  pub fuel : new.fuel ≡ old.fuel
+  pub few : IsBelow new.fresh (charged 1 old.fresh)
+
+-- the same in one scope
 pub record Works (old new : World) : Type 0 where
   pub world : Evaluates old new
+  pub scope : new.scope ≡ old.scope
   pub fuel : new.fuel ≡ old.fuel
   pub few : IsBelow new.fresh (charged 1 old.fresh)
 
 -- the same, where no fresh name is taken
 pub record Rests (old new : World) : Type 0 where
   pub world : Evaluates old new
+  pub scope : new.scope ≡ old.scope
   pub fuel : new.fuel ≡ old.fuel
   pub fresh : new.fresh ≡ old.fresh
 

@@ -1,6 +1,6 @@
 // The machine: what waits for a part's outcome stands on a stack.
 
-ghost use Rattle.std.specs.Prelude.{◌≡◌, ◌≤◌, ◌+◌, List, IfOk, length};
+ghost use Rattle.std.specs.Prelude.{◌≡◌, ◌<◌, ◌≤◌, ◌+◌, List, IfOk, length};
 ghost use Rattle.ath_syntax.specs.Stands.{IsPhrase};
 ghost use Rattle.ath_syntax.specs.Tree.{Phrase as PhraseTree, ascribe_at};
 ghost use Rattle.ath_syntax.specs.declared.node.SortText.{SortText as Text};
@@ -12,11 +12,12 @@ ghost use Rattle.ath_trees.specs.Tree.{Sent};
 ghost use Rattle.ath_calculus.specs.Derives.{AreDerivable};
 ghost use Rattle.ath_calculus.specs.Theory.{theory_of};
 ghost use Rattle.ath_base.specs.Base.{sentences};
-ghost use Rattle.ath_eval.specs.Evaluation.{outcome_of};
-ghost use Rattle.ath_eval.specs.Machine.{evaluates};
+ghost use Rattle.ath_base.specs.Stands.{AreStored, KeepsScopes};
+ghost use Rattle.ath_terms.specs.Trees.{Trees};
+ghost use Rattle.ath_eval.specs.Evaluation.{evaluated, outcome_of};
 ghost use Rattle.ath_eval.specs.Room.{charged, IsBelow, IsRoomy};
-ghost use Rattle.ath_eval.specs.Stretches.{reading, Enters, EntersForm, TakesArguments, IsTaking, ResumesFrame, IsResumed};
-ghost use Rattle.ath_eval.specs.World.{IsOutcome, IsDerivable, IsSteady, context_of, environment_of, left_in, Evaluates, Works, Rests, HasRoom};
+ghost use Rattle.ath_eval.specs.Stretches.{IsWithin, Concludes, Enters, EntersForm, TakesArguments, IsTaking, ResumesFrame, IsResumed};
+ghost use Rattle.ath_eval.specs.World.{IsOutcome, IsDerivable, IsSteady, context_of, environment_of, left_in, Evaluates, Passes, Works, Rests, HasRoom};
 ghost use Rattle.ath_eval.specs.declared.world.Outcome.TheVariants as ends;
 
 use crate::frame::{Frame, State, Use};
@@ -24,10 +25,12 @@ use crate::names::{ascribe, find, variable, written_sort};
 use crate::parts::{act, argument};
 use crate::refusals::bare;
 use crate::world::{Outcome, World};
+use ath_base::{Base, Origin};
 use ath_declarations::sort_of_text;
 use ath_env::{Value, value_of};
 use ath_print::FaultKind;
 use ath_syntax::{Form, PhraseId};
+use ath_trees::SentId;
 use sqlite_items::Items;
 use std::alloc::{AllocError, Global};
 
@@ -93,11 +96,11 @@ fn enter_form(
             Ok(State::Enter(*part, levels))
         }
         Form::Apply(head, _) => {
-            stack.push(Frame::Head(Use::Apply, phrase, levels))?;
+            stack.push(Frame::Head(Use::Apply, phrase, levels, w.scope))?;
             Ok(State::Enter(*head, levels))
         }
         Form::Call(head, _) => {
-            stack.push(Frame::Head(Use::Call, phrase, levels))?;
+            stack.push(Frame::Head(Use::Call, phrase, levels, w.scope))?;
             Ok(State::Enter(*head, levels))
         }
         _other => Ok(State::Done(bare(alloc, FaultKind::NotBuilt, at))),
@@ -128,7 +131,7 @@ fn take_arguments(
             Ok(state)
         }
         Some(next) => {
-            stack.push(Frame::Argument(form, phrase, head, done, levels))?;
+            stack.push(Frame::Argument(form, phrase, head, done, levels, w.scope))?;
             Ok(State::Enter(next, levels))
         }
     }
@@ -158,6 +161,22 @@ fn ascribed(
     }
 }
 
+/// A frame whose part concludes a sentence. Where it waits for an argument, the sentence joins the base of what comes after.
+fn conclude_part(base: &mut Base, frame: Frame, p: SentId) -> Result<Frame, AllocError>
+    requires { IsWithin base.old.nodes.items frame }
+    ensures kept { KeepsScopes base.old.nodes.items base.new.nodes.items }
+    ensures stored { (s : Trees) → p.0 < length s.sents → AreStored s base.old.nodes.items → AreStored s base.new.nodes.items }
+    ensures frame { IfOk result (λ f. Concludes base.old.nodes.items p frame base.new.nodes.items f) }
+{
+    match frame {
+        Frame::Argument(form, phrase, head, done, levels, scope) => {
+            let after = base.add(scope, p, Origin::Concluded)?;
+            Ok(Frame::Argument(form, phrase, head, done, levels, after))
+        }
+        other => Ok(other),
+    }
+}
+
 /// Gives a frame the value of its part.
 fn resume_value(
     alloc: Global,
@@ -168,17 +187,19 @@ fn resume_value(
 ) -> Result<State, AllocError>
     requires known { IsResumed w.old (ends.Value value) frame stack.old.items }
     requires room { HasRoom w.old }
-    ensures works { Works w.old w.new }
+    ensures passes { Passes w.old w.new }
     ensures room { IsBelow (charged (length stack.new.items) w.new.fresh) (charged (length stack.old.items + 1) w.old.fresh) }
     ensures steps { IfOk result (λ st. ResumesFrame w.old (ends.Value value) frame stack.old.items w.new st stack.new.items) }
 {
     match frame {
-        Frame::Head(form, phrase, levels) => {
+        Frame::Head(form, phrase, levels, scope) => {
+            w.scope = scope;
             let none = Items::new(alloc);
             let state = take_arguments(alloc, w, stack, form, phrase, value, none, levels)?;
             Ok(state)
         }
-        Frame::Argument(form, phrase, head, mut done, levels) => {
+        Frame::Argument(form, phrase, head, mut done, levels, scope) => {
+            w.scope = scope;
             done.push(value)?;
             let state = take_arguments(alloc, w, stack, form, phrase, head, done, levels)?;
             Ok(state)
@@ -200,7 +221,7 @@ fn resume(
 ) -> Result<State, AllocError>
     requires known { IsResumed w.old outcome frame stack.old.items }
     requires room { HasRoom w.old }
-    ensures works { Works w.old w.new }
+    ensures passes { Passes w.old w.new }
     ensures room { IsBelow (charged (length stack.new.items) w.new.fresh) (charged (length stack.old.items + 1) w.old.fresh) }
     ensures steps { IfOk result (λ st. ResumesFrame w.old outcome frame stack.old.items w.new st stack.new.items) }
 {
@@ -211,6 +232,7 @@ fn resume(
         }
         Outcome::Theorem(p) => {
             let value = value_of(&w.store, p);
+            let frame = conclude_part(&mut w.base, frame, p)?;
             let state = resume_value(alloc, w, stack, frame, value)?;
             Ok(state)
         }
@@ -228,7 +250,7 @@ fn evaluate(
 ) -> Result<Outcome, AllocError>
     requires { (x : PhraseTree) × IsPhrase w.old.phrases phrase x }
     ensures world { Evaluates w.old w.new }
-    ensures outcome { IfOk result (λ o. (x : PhraseTree) → IsPhrase w.old.phrases phrase x → IsOutcome w.new.store w.new.fuel w.new.fresh o (evaluates (reading w.old) levels x (left_in w.old))) }
+    ensures outcome { IfOk result (λ o. (x : PhraseTree) → IsPhrase w.old.phrases phrase x → IsOutcome w.new.store w.new.fuel w.new.fresh o (evaluated (context_of w.old) levels (environment_of w.old) x (left_in w.old))) }
 {
     let mut stack: Vec<Frame> = Vec::new(alloc);
     let mut state = State::Enter(phrase, levels);
@@ -247,13 +269,17 @@ fn evaluate(
     }
 }
 
-/// The outcome of a directive's phrase. Where each sentence of the base is derivable, so is the conclusion of a deduction.
+/// The outcome of a directive's phrase, after which the scope is as it was. Where each sentence of the base is derivable, so is the conclusion of a deduction.
 pub fn run(alloc: Global, w: &mut World, phrase: PhraseId) -> Result<Outcome, AllocError>
     requires { (x : PhraseTree) × IsPhrase w.old.phrases phrase x }
     ensures world { Evaluates w.old w.new }
+    ensures scope { w.new.scope ≡ w.old.scope }
     ensures outcome { IfOk result (λ o. (x : PhraseTree) → IsPhrase w.old.phrases phrase x → IsOutcome w.new.store w.new.fuel w.new.fresh o (outcome_of (context_of w.old) (environment_of w.old) x (left_in w.old))) }
     ensures follows { IfOk result (λ o. (asserted hyps : List Sent) → AreDerivable (theory_of w.old.sig) asserted hyps (sentences (environment_of w.old).base) → IsDerivable (theory_of w.old.sig) asserted hyps w.new.store o) }
 {
-    let outcome = evaluate(alloc, w, phrase, MOST_NESTED)?;
+    let begun = w.scope;
+    let evaluated = evaluate(alloc, w, phrase, MOST_NESTED);
+    w.scope = begun;
+    let outcome = evaluated?;
     Ok(outcome)
 }

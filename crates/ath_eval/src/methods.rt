@@ -24,7 +24,7 @@ fn is_in_base(w: &World, p: SentId) -> bool
     requires { p.0 < length w.now.store.sents }
     ensures { result ≡ is_some (holds (environment_of w.now).base (sent_at w.now.store.sents p.0)) }
 {
-    w.base.holds(&w.store, p).is_some()
+    w.base.holds(&w.store, w.scope, p).is_some()
 }
 
 /// The theorem of a sentence that the base holds.

@@ -40,7 +40,7 @@ use Rattle.ath_session.proofs.SessionLaws.{reply_as, refused_plainly, value_asse
 use Rattle.ath_session.proofs.StatementLaws.{domain_here, declare_here, assert_here, load_here, phrase_here, other_here, statement_here}
 
 -- ---- a phrase that was evaluated
-module _ (w v : World) (moved : Evaluates w v) (i : PhraseId) (o : code.Outcome) (says : (x : Phrase) → IsPhrase w.phrases i x → IsOutcome v.store v.fuel v.fresh o (outcome_of (context (state_of w)) (environment (state_of w)) x (left (state_of w)))) where
+module _ (w v : World) (moved : Evaluates w v) (still : v.scope ≡ w.scope) (i : PhraseId) (o : code.Outcome) (says : (x : Phrase) → IsPhrase w.phrases i x → IsOutcome v.store v.fuel v.fresh o (outcome_of (context (state_of w)) (environment (state_of w)) x (left (state_of w)))) where
   abbrev Asserts : Bool → World → Reply → Type 0
   Asserts closed u r = (x : Phrase) → IsPhrase w.phrases i x → IsReply u r (asserting (state_of w) closed (place x) (outcome_of (context (state_of w)) (environment (state_of w)) x (left (state_of w))))
 
@@ -52,35 +52,35 @@ module _ (w v : World) (moved : Evaluates w v) (i : PhraseId) (o : code.Outcome)
 
   module _ {E : Type 0} where
     pub value_assertion : (u : World) (a : Result Reply E) (closed : Bool) (n : Node) (x : coded.Value) → slice_get w.phrases.phrases i.0 ≡ Some n → o ≡ out.Value x → IfOk a (λ r. IsReply u r (asserting_sentence (state_of v) closed n.pos (sentence_of (value_at v.store x)))) → IfOk a (Asserts closed u)
-    value_assertion u (Ok r) closed n x at e h = λ y k. reply_as u r _ _ (value_asserted w v moved closed x n.pos (place y) _ (outcome_is (out.Value x) e y k) (place_here w.phrases i n y at k)) h
+    value_assertion u (Ok r) closed n x at e h = λ y k. reply_as u r _ _ (value_asserted w v moved still closed x n.pos (place y) _ (outcome_is (out.Value x) e y k) (place_here w.phrases i n y at k)) h
     value_assertion u (Err m) closed n x at e h = tt
 
     pub theorem_assertion : (u : World) (a : Result Reply E) (closed : Bool) (n : Node) (p : SentId) → slice_get w.phrases.phrases i.0 ≡ Some n → o ≡ out.Theorem p → IfOk a (λ r. IsReply u r (asserting_sentence (state_of v) closed n.pos (sentence_of (value_at v.store (coded.TheVariants.Sent p))))) → IfOk a (Asserts closed u)
-    theorem_assertion u (Ok r) closed n p at e h = λ y k. reply_as u r _ _ (theorem_asserted w v moved closed p n.pos (place y) _ (outcome_is (out.Theorem p) e y k) (place_here w.phrases i n y at k)) h
+    theorem_assertion u (Ok r) closed n p at e h = λ y k. reply_as u r _ _ (theorem_asserted w v moved still closed p n.pos (place y) _ (outcome_is (out.Theorem p) e y k) (place_here w.phrases i n y at k)) h
     theorem_assertion u (Err m) closed n p at e h = tt
 
     pub error_assertion : (a : Result Reply E) (closed : Bool) (at : Pos) (f : Fault) → o ≡ out.Error f at → IfOk a (λ r. IsReply v r (refusing (state_of v) at (refusal_of v.store f))) → IfOk a (Asserts closed v)
-    error_assertion (Ok r) closed at f e h = λ y k. reply_as v r _ _ (error_asserted w v moved closed at (place y) f _ (outcome_is (out.Error f at) e y k)) h
+    error_assertion (Ok r) closed at f e h = λ y k. reply_as v r _ _ (error_asserted w v moved still closed at (place y) f _ (outcome_is (out.Error f at) e y k)) h
     error_assertion (Err m) closed at f e h = tt
 
     pub spent_assertion : (a : Result Reply E) (closed : Bool) (at : Pos) → o ≡ out.Exhausted at → IfOk a (λ r. (r.events.items ≡ telling.Fuel at ∷ []) × (r.next ≡ next.Stop)) → IfOk a (Asserts closed v)
-    spent_assertion (Ok r) closed at e h = λ y k. spent_asserted w v moved closed r at (place y) _ (outcome_is (out.Exhausted at) e y k) h.0 h.1
+    spent_assertion (Ok r) closed at e h = λ y k. spent_asserted w v moved still closed r at (place y) _ (outcome_is (out.Exhausted at) e y k) h.0 h.1
     spent_assertion (Err m) closed at e h = tt
 
     pub value_showing : (a : Result Reply E) (x : coded.Value) → o ≡ out.Value x → IfOk a (λ r. (r.events.items ≡ telling.Shown x ∷ []) × (r.next ≡ next.Go)) → IfOk a (Shows v)
-    value_showing (Ok r) x e h = λ y k. value_shown w v moved r x _ (outcome_is (out.Value x) e y k) h.0 h.1
+    value_showing (Ok r) x e h = λ y k. value_shown w v moved still r x _ (outcome_is (out.Value x) e y k) h.0 h.1
     value_showing (Err m) x e h = tt
 
     pub error_showing : (a : Result Reply E) (at : Pos) (f : Fault) → o ≡ out.Error f at → IfOk a (λ r. IsReply v r (refusing (state_of v) at (refusal_of v.store f))) → IfOk a (Shows v)
-    error_showing (Ok r) at f e h = λ y k. reply_as v r _ _ (error_shown w v moved at f _ (outcome_is (out.Error f at) e y k)) h
+    error_showing (Ok r) at f e h = λ y k. reply_as v r _ _ (error_shown w v moved still at f _ (outcome_is (out.Error f at) e y k)) h
     error_showing (Err m) at f e h = tt
 
     pub spent_showing : (a : Result Reply E) (at : Pos) → o ≡ out.Exhausted at → IfOk a (λ r. (r.events.items ≡ telling.Fuel at ∷ []) × (r.next ≡ next.Stop)) → IfOk a (Shows v)
-    spent_showing (Ok r) at e h = λ y k. spent_shown w v moved r at _ (outcome_is (out.Exhausted at) e y k) h.0 h.1
+    spent_showing (Ok r) at e h = λ y k. spent_shown w v moved still r at _ (outcome_is (out.Exhausted at) e y k) h.0 h.1
     spent_showing (Err m) at e h = tt
 
   pub theorem_showing : (u : World) (r : Reply) (p : SentId) → o ≡ out.Theorem p → u.store ≡ v.store → state_of u ≡ joining (state_of v) Concluded (sent_at v.store.sents p.0) → r.events.items ≡ telling.Theorem p ∷ [] → r.next ≡ next.Go → Shows u r
-  theorem_showing u r p e m j a n = λ y k. theorem_shown w v moved u r p _ (outcome_is (out.Theorem p) e y k) m j a n
+  theorem_showing u r p e m j a n = λ y k. theorem_shown w v moved still u r p _ (outcome_is (out.Theorem p) e y k) m j a n
 
 -- ---- statements
 module _ (w u : World) (what : What) (at : Pos) where

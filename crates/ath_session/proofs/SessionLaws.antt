@@ -28,8 +28,8 @@ use Rattle.ath_base.specs.declared.entry.Origin.TheVariants.{Asserted, Concluded
 use Rattle.ath_base.specs.declared.entry.Entry as entry
 use Rattle.ath_base.specs.declared.entry.Origin.{Origin}
 use Rattle.ath_base.specs.Base.{Entry}
-use Rattle.ath_base.proofs.Newest.{entries_last, entries_grow}
-use Rattle.ath_base.specs.Stands.{entries_of}
+use Rattle.ath_base.proofs.Scopes.{entries_grow, keeps-none}
+use Rattle.ath_base.specs.Stands.{entries_in, entries_of}
 use Rattle.ath_eval.specs.Building as building
 use Rattle.ath_eval.specs.Stands.{IsWhy}
 use Rattle.ath_eval.specs.World.{Evaluates, IsOutcome}
@@ -53,11 +53,8 @@ begins_still first names new h g =
     ap (take (length first)) g.longer ∙ take-append-le (length first) names g.more le ∙ h
 
 -- ---- a sentence that has joined the base
-pub joined_state : (w : World) (es : List entry.Entry) (p : SentId) (how : Origin) → es ≡ w.base.entries.items ++ record { sentence = p; origin = how } ∷ [] → ◌≡◌ {A = State} (record (state_of w) { base = entries_of w.store es }) (joining (state_of w) how (trees.sent_at w.store.sents p.0))
-joined_state w es p how e =
-    let l : entries_of w.store es ≡ record { sentence = trees.sent_at w.store.sents p.0; origin = how } ∷ entries_of w.store w.base.entries.items =
-    ap (entries_of w.store) e ∙ entries_last w.store w.base.entries.items (record { sentence = p; origin = how }) in
-    ap (λ (es : List Entry). record (state_of w) { base = es }) l
+pub joined_state : (w : World) (es : List entry.Entry) (p : SentId) (how : Origin) → es ≡ record { sentence = p; origin = how } ∷ entries_in w.base.nodes.items w.scope.0 → ◌≡◌ {A = State} (record (state_of w) { base = entries_of w.store es }) (joining (state_of w) how (trees.sent_at w.store.sents p.0))
+joined_state w es p how e = ap (λ (es : List entry.Entry). record (state_of w) { base = entries_of w.store es }) e
 
 -- ---- replies
 pub reply_as : (w : World) (r : Reply) (e f : Effect) → e ≡ f → IsReply w r e → IsReply w r f
@@ -67,21 +64,21 @@ pub one_event : (s : trees.Trees) (es : List told.Event) (e : told.Event) (x : E
 one_event s es e x h k m = (All-same (IsEventIn s) es (e ∷ []) h (All-cons (IsEventIn s) e [] k (All-nil (IsEventIn s))), ap (map (event_of s)) h ∙ ap (λ y. y ∷ []) m)
 
 -- the state, where an evaluation has moved it
-pub state_moved : (w v : World) → Evaluates w v → state_of v ≡ with_left (state_of w) (left_of v.fuel v.fresh)
-state_moved w v e =
-    let b : entries_of v.store v.base.entries.items ≡ entries_of w.store w.base.entries.items = base_same w v e in
+pub state_moved : (w v : World) → Evaluates w v → v.scope ≡ w.scope → state_of v ≡ with_left (state_of w) (left_of v.fuel v.fresh)
+state_moved w v e still =
+    let b = base_same w v e still in
     let n = e.names in
     let g = e.signature in
     λ i. record { names = n i; signature = g i; base = b i; fuel = v.fuel; fresh = v.fresh }
 
-pub state_left : (w v : World) (left : ℕ) (made : Fresh) → Evaluates w v → v.fuel ≡ left → v.fresh ≡ made → state_of v ≡ with_left (state_of w) (left_of left made)
-state_left w v left made e f g = state_moved w v e ∙ (λ i. with_left (state_of w) (left_of (f i) (g i)))
+pub state_left : (w v : World) (left : ℕ) (made : Fresh) → Evaluates w v → v.scope ≡ w.scope → v.fuel ≡ left → v.fresh ≡ made → state_of v ≡ with_left (state_of w) (left_of left made)
+state_left w v left made e still f g = state_moved w v e still ∙ (λ i. with_left (state_of w) (left_of (f i) (g i)))
 
 -- ---- what an evaluation gives, asserted
-module _ (w v : World) (moved : Evaluates w v) where
+module _ (w v : World) (moved : Evaluates w v) (still : v.scope ≡ w.scope) where
   pub value_asserted : (closed : Bool) (x : coded.Value) (at place : Pos) (o : Outcome) → IsOutcome v.store v.fuel v.fresh (out.Value x) o → place ≡ at → asserting_sentence (state_of v) closed at (sentence_of (value_at v.store x)) ≡ asserting (state_of w) closed place o
   value_asserted closed x at place (gives y after) h e =
-      let s = state_left w v after.fuel after.fresh moved h.1 h.2 in
+      let s = state_left w v after.fuel after.fresh moved still h.1 h.2 in
       let p = sym e in
       let q = ap sentence_of h.0.1 in
       λ i. asserting_sentence (s i) closed (p i) (q i)
@@ -91,7 +88,7 @@ module _ (w v : World) (moved : Evaluates w v) where
 
   pub theorem_asserted : (closed : Bool) (p : SentId) (at place : Pos) (o : Outcome) → IsOutcome v.store v.fuel v.fresh (out.Theorem p) o → place ≡ at → asserting_sentence (state_of v) closed at (sentence_of (value_at v.store (coded.TheVariants.Sent p))) ≡ asserting (state_of w) closed place o
   theorem_asserted closed p at place (concludes y after) h e =
-      let s = state_left w v after.fuel after.fresh moved h.1 h.2 in
+      let s = state_left w v after.fuel after.fresh moved still h.1 h.2 in
       let f = sym e in
       let q = h.0.1 in
       λ i. asserting_sentence (s i) closed (f i) (Some (q i))
@@ -101,7 +98,7 @@ module _ (w v : World) (moved : Evaluates w v) where
 
   pub error_asserted : (closed : Bool) (at place : Pos) (f : Fault) (o : Outcome) → IsOutcome v.store v.fuel v.fresh (out.Error f at) o → refusing (state_of v) at (refusal_of v.store f) ≡ asserting (state_of w) closed place o
   error_asserted closed at place f (fails inner why after) h =
-      let s = state_left w v after.fuel after.fresh moved h.2 h.3 in
+      let s = state_left w v after.fuel after.fresh moved still h.2 h.3 in
       let p = h.0 in
       let q = h.1.1 in
       λ i. refusing (s i) (p i) (q i)
@@ -111,7 +108,7 @@ module _ (w v : World) (moved : Evaluates w v) where
 
   pub error_shown : (at : Pos) (f : Fault) (o : Outcome) → IsOutcome v.store v.fuel v.fresh (out.Error f at) o → refusing (state_of v) at (refusal_of v.store f) ≡ showing (state_of w) o
   error_shown at f (fails inner why after) h =
-      let s = state_left w v after.fuel after.fresh moved h.2 h.3 in
+      let s = state_left w v after.fuel after.fresh moved still h.2 h.3 in
       let p = h.0 in
       let q = h.1.1 in
       λ i. refusing (s i) (p i) (q i)
@@ -142,7 +139,7 @@ module _ (w v : World) (moved : Evaluates w v) where
   value_shown r x (gives y after) h e n = record {
     events = one_event v.store r.events.items (telling.Shown x) (Event.shown y) e h.0.0 (ap Event.shown h.0.1);
     next = ap next_of n;
-    state = state_left w v after.fuel after.fresh moved h.1 h.2;
+    state = state_left w v after.fuel after.fresh moved still h.1 h.2;
   }
   value_shown r x (concludes y after) h e n = absurd h
   value_shown r x (fails inner why after) h e n = absurd h
@@ -151,7 +148,7 @@ module _ (w v : World) (moved : Evaluates w v) where
   -- the conclusion, when it has joined the base
   pub theorem_shown : (u : World) (r : Reply) (p : SentId) (o : Outcome) → IsOutcome v.store v.fuel v.fresh (out.Theorem p) o → u.store ≡ v.store → state_of u ≡ joining (state_of v) Concluded (trees.sent_at v.store.sents p.0) → r.events.items ≡ telling.Theorem p ∷ [] → r.next ≡ next.Go → IsReply u r (showing (state_of w) o)
   theorem_shown u r p (concludes y after) h m j e n =
-      let s = state_left w v after.fuel after.fresh moved h.1 h.2 in
+      let s = state_left w v after.fuel after.fresh moved still h.1 h.2 in
       let q = h.0.1 in
       record {
         events = subst (λ (t : trees.Trees). AreEvents t r.events.items (Event.proved y ∷ [])) (sym m) (one_event v.store r.events.items (telling.Theorem p) (Event.proved y) e h.0.0 (ap Event.proved q));
@@ -172,10 +169,10 @@ refused_plainly w r at f k e p q g h = reply_as w r _ e (ap (refusing (state_of 
 -- ---- what is asserted, in a store that has grown
 module _ (w : World) (t : trees.Trees) (grown : trees.Grows w.store t) where
   abbrev grown_state : State
-  grown_state = record { names = w.names; signature = w.sig; base = entries_of t w.base.entries.items; fuel = w.fuel; fresh = w.fresh }
+  grown_state = record { names = w.names; signature = w.sig; base = entries_of t (entries_in w.base.nodes.items w.scope.0); fuel = w.fuel; fresh = w.fresh }
 
   same_state : grown_state ≡ state_of w
-  same_state = ap (λ (es : List Entry). record { names = w.names; signature = w.sig; base = es; fuel = w.fuel; fresh = w.fresh }) (entries_grow w.store t grown w.base.entries.items w.in_store)
+  same_state = ap (λ (es : List Entry). record { names = w.names; signature = w.sig; base = es; fuel = w.fuel; fresh = w.fresh }) (entries_grow w.store t grown w.base.nodes.items w.base.nodes.items w.scope.0 w.in_store w.inside (keeps-none w.base.nodes.items))
 
   -- ---- the sentence that a value is
   module _ (x : coded.Value) (closed : Bool) (found : Option SentId) (h : IsSentenceOf t found (sentence_of (value_at w.store x))) where

@@ -1,5 +1,5 @@
 -- What is built, by the nodes of phrases.
-use Rattle.std.proofs.Common.{◌≡◌, ℕ, ◌<◌, ◌+◌, ◌&&◌, not, Bool, true, false, List, [], ◌∷◌, length, get_or, take, drop, Option, Some, None, is_some, cond, refl, sym, ◌∙◌, ap, subst, add-one, drop-cons, arith}
+use Rattle.std.proofs.Common.{◌≡◌, ℕ, ◌<◌, ◌+◌, Bool, true, false, List, [], ◌∷◌, length, get_or, take, drop, Option, Some, None, is_some, cond, refl, sym, ◌∙◌, ap, subst, add-one, drop-cons, arith}
 use Rattle.std.specs.Prelude.{slice_get}
 use Rattle.std.specs.List.{All}
 use Rattle.std.specs.Str.{bytes_eq}
@@ -15,10 +15,9 @@ use Rattle.ath_syntax.specs.declared.node.SortText.{SortText}
 use Rattle.ath_syntax.specs.declared.node.Node.{Node}
 use Rattle.ath_syntax.specs.Nodes.{Nodes}
 use Rattle.ath_syntax.specs.Fits.{IsPart, IsKind, FitsForm, before}
-use Rattle.ath_syntax.specs.Tree.{Phrase, name_at, variable_at, ascribe_at, apply_at, call_at, Phrases, no_phrases, more_phrases, is_deduction}
-use Rattle.ath_syntax.specs.Stands.{IsPhrase, IsNode, is_node, IsForm, is_name, is_variable, is_string, is_list, is_ascribe, is_apply, is_call, is_lambda, is_method, is_let, is_letrec, is_match, is_check, is_try, is_seq, is_assume, is_absurd, is_pick_any, is_pick_witness, is_induct, is_cases, is_conclude, ArePhrases, phrases_none, phrases_more}
+use Rattle.ath_syntax.specs.Tree.{Phrase, name_at, variable_at, ascribe_at, apply_at, call_at, Phrases, no_phrases, more_phrases}
+use Rattle.ath_syntax.specs.Stands.{IsPhrase, IsForm, is_name, is_variable, is_string, is_list, is_ascribe, is_apply, is_call, is_lambda, is_method, is_let, is_letrec, is_match, is_check, is_try, is_seq, is_assume, is_absurd, is_pick_any, is_pick_witness, is_induct, is_cases, is_conclude, ArePhrases, phrases_none, phrases_more}
 use Rattle.ath_syntax.proofs.Growth.{part_of_kind}
-use Rattle.ath_syntax.proofs.NodeLaws.{node_at, part_of}
 use Rattle.ath_syntax.proofs.One.{one_phrase}
 use Rattle.ath_env.specs.LookUp.{text_of}
 use Rattle.ath_syntax.specs.Places.{place}
@@ -154,11 +153,11 @@ module _ (s : Nodes) where
       let k = parts_where is a.args a.are_args b in
       subst (λ (y : Phrase). ArePartsOf s (cond b (Some is) None) (parts names y)) (sym a.whole) (subst (λ (c : Bool). ArePartsOf s (cond b (Some is) None) (cond c (Some a.args) None)) (f a.head a.is_head) k)
 
-  pub call_parts : (names : List (List ℕ)) (b : Bool) (i : PhraseId) (n : Node) (j : PhraseId) (is : List PhraseId) → slice_get s.phrases i.0 ≡ Some n → n.form ≡ Call j is → ((y : Phrase) (ys : Phrases) → IsPhrase s j y → ArePhrases s is ys → b ≡ (built.is_method_name names y && built.are_expressions ys)) → (x : Phrase) → IsPhrase s i x → ArePartsOf s (cond b (Some is) None) (parts names x)
+  pub call_parts : (names : List (List ℕ)) (b : Bool) (i : PhraseId) (n : Node) (j : PhraseId) (is : List PhraseId) → slice_get s.phrases i.0 ≡ Some n → n.form ≡ Call j is → ((y : Phrase) → IsPhrase s j y → b ≡ built.is_method_name names y) → (x : Phrase) → IsPhrase s i x → ArePartsOf s (cond b (Some is) None) (parts names x)
   call_parts names b i n j is at e f x h =
       let a = call_here i n j is at e x h in
       let k = parts_where is a.args a.are_args b in
-      subst (λ (y : Phrase). ArePartsOf s (cond b (Some is) None) (parts names y)) (sym a.whole) (subst (λ (c : Bool). ArePartsOf s (cond b (Some is) None) (cond c (Some a.args) None)) (f a.head a.args a.is_head a.are_args) k)
+      subst (λ (y : Phrase). ArePartsOf s (cond b (Some is) None) (parts names y)) (sym a.whole) (subst (λ (c : Bool). ArePartsOf s (cond b (Some is) None) (cond c (Some a.args) None)) (f a.head a.is_head) k)
 
   other_parts : (names : List (List ℕ)) (p : Pos) (f : Form) (x : Phrase) → ((y : Sym) → f ≡ Name y → ⊥) → ((y : Sym) (k : ℕ) (o : Option SortText) → f ≡ Var y k o → ⊥) → ((j : PhraseId) (o : SortText) → f ≡ Ascribe j o → ⊥) → ((j : PhraseId) (is : List PhraseId) → f ≡ Apply j is → ⊥) → ((j : PhraseId) (is : List PhraseId) → f ≡ Call j is → ⊥) → IsForm s p f x → ArePartsOf s None (parts names x)
   other_parts names p f x nn nv ns na nc (is_name {x = y}) = absurd (nn y refl)
@@ -207,50 +206,6 @@ module _ (s : Nodes) where
       go : (xs : Phrases) → ArePhrases s [] xs → xs ≡ no_phrases
       go xs phrases_none = refl
 
-  -- all before this place are expressions
-  pub record ExpressionsTo (is : List PhraseId) (k : ℕ) : Type 0 where
-    pub rest : Phrases
-    pub stand : ArePhrases s (drop k is) rest
-    pub same : (xs : Phrases) → ArePhrases s is xs → built.are_expressions xs ≡ built.are_expressions rest
-
-  one_list : (is : List PhraseId) (t u : Phrases) → ArePhrases s is t → ArePhrases s is u → t ≡ u
-  one_list is t u phrases_none phrases_none = refl
-  one_list is t u (phrases_more a b) (phrases_more c d) = let e = one_phrase s _ _ _ a c in let f = one_list _ _ _ b d in cc
-
-  pub expressions_init : (is : List PhraseId) → ((xs : Phrases) × ArePhrases s is xs) → ExpressionsTo is 0
-  expressions_init is h = record { rest = h.0; stand = h.1; same = λ xs k. ap built.are_expressions (one_list is xs h.0 k h.1) }
-
-  kind_here : (i : PhraseId) (n : Node) (x : Phrase) → slice_get s.phrases i.0 ≡ Some n → IsPhrase s i x → n.deduction ≡ is_deduction x
-  kind_here i n x at h = go n x (node_at s i n x h at)
-    where
-      go : (n : Node) (x : Phrase) → IsNode s n x → n.deduction ≡ is_deduction x
-      go n x (is_node d f) = d
-
-  first_test : (is : List PhraseId) (k : ℕ) (d : PhraseId) (n : Node) (lt : k < length is) (e : ExpressionsTo is k) → slice_get s.phrases (get_or is k d).0 ≡ Some n → built.are_expressions e.rest ≡ (not n.deduction && built.are_expressions (front is k d e.rest lt e.stand).rest)
-  first_test is k d n lt e at =
-      let f = front is k d e.rest lt e.stand in
-      ap built.are_expressions f.whole ∙ ap (λ b. not b && built.are_expressions f.rest) (sym (kind_here (get_or is k d) n f.first at f.is_first))
-
-  pub first_part : (is : List PhraseId) (k : ℕ) (d : PhraseId) → k < length is → ExpressionsTo is k → (get_or is k d).0 < length s.phrases
-  first_part is k d lt e = let f = front is k d e.rest lt e.stand in part_of s (get_or is k d) f.first f.is_first
-
-  pub deduction_there : (is : List PhraseId) (k : ℕ) (d : PhraseId) (n : Node) → k < length is → ExpressionsTo is k → slice_get s.phrases (get_or is k d).0 ≡ Some n → n.deduction ≡ true → (xs : Phrases) → ArePhrases s is xs → false ≡ built.are_expressions xs
-  deduction_there is k d n lt e at t xs h =
-      let f = front is k d e.rest lt e.stand in
-      sym (e.same xs h ∙ first_test is k d n lt e at ∙ ap (λ b. not b && built.are_expressions f.rest) t)
-
-  pub expressions_next : (is : List PhraseId) (k : ℕ) (d : PhraseId) (n : Node) → k < length is → ExpressionsTo is k → slice_get s.phrases (get_or is k d).0 ≡ Some n → n.deduction ≡ false → ExpressionsTo is (k + 1)
-  expressions_next is k d n lt e at t =
-      let f = front is k d e.rest lt e.stand in
-      record {
-        rest = f.rest;
-        stand = f.are_rest;
-        same = λ xs h. e.same xs h ∙ first_test is k d n lt e at ∙ ap (λ b. not b && built.are_expressions f.rest) t;
-      }
-
-  pub all_expressions : (is : List PhraseId) (k : ℕ) → length is < k + 1 → ExpressionsTo is k → (xs : Phrases) → ArePhrases s is xs → true ≡ built.are_expressions xs
-  all_expressions is k le e xs h = sym (e.same xs h ∙ ap built.are_expressions (at_end is k e.rest le e.stand))
-
 -- ---- the first node that isn't built, by the parts
 abbrev told : List (List ℕ) → Phrase → Option Phrases → Option Pos
 told names x None = Some (place x)
@@ -269,7 +224,7 @@ unbuilt_by_parts names (name_at p n) = refl
 unbuilt_by_parts names (variable_at p x k s) = refl
 unbuilt_by_parts names (ascribe_at p x s) = sym (or_none (built.unbuilt names x))
 unbuilt_by_parts names (apply_at p f xs) = told_where names (apply_at p f xs) xs (built.is_head f)
-unbuilt_by_parts names (call_at p f xs) = told_where names (call_at p f xs) xs (built.is_method_name names f && built.are_expressions xs)
+unbuilt_by_parts names (call_at p f xs) = told_where names (call_at p f xs) xs (built.is_method_name names f)
 unbuilt_by_parts names x = refl
 
 module _ (s : Nodes) (names : List (List ℕ)) (i : PhraseId) where

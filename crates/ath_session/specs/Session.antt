@@ -9,7 +9,7 @@ use Rattle.ath_print.specs.declared.event.Event as told
 use Rattle.ath_print.specs.Events.{Event}
 use Rattle.ath_print.specs.Stands.{event_of, IsEventIn}
 use Rattle.ath_eval.specs.declared.world.World.{World}
-use Rattle.ath_base.specs.Stands.{entries_of}
+use Rattle.ath_base.specs.Stands.{entries_in, entries_of}
 use Rattle.ath_session.specs.declared.session.Next as answer
 use Rattle.ath_session.specs.declared.session.Next.TheVariants as code
 use Rattle.ath_session.specs.declared.session.Reply.{Reply}
@@ -17,7 +17,7 @@ use Rattle.ath_session.specs.State.{State}
 use Rattle.ath_session.specs.Directives.{Continuation, goes_on, loads, ends, Effect}
 
 abbrev pub state_of : World → State
-state_of w = record { names = w.names; signature = w.sig; base = entries_of w.store w.base.entries.items; fuel = w.fuel; fresh = w.fresh }
+state_of w = record { names = w.names; signature = w.sig; base = entries_of w.store (entries_in w.base.nodes.items w.scope.0); fuel = w.fuel; fresh = w.fresh }
 
 -- the parameters that a declaration lists differ
 abbrev pub ParamsDiffer : What → Type 0

@@ -1,9 +1,9 @@
 -- What isn't built yet, and where. A phrase is built where it is a name, a variable, an ascription of a built phrase, an
--- application of a name to built phrases, or a call of `claim` or `mp` with built expressions.
-use Rattle.std.specs.Prelude.{ℕ, Bool, true, false, ◌&&◌, ◌||◌, not, List, Option, Some, None, codes, if◌then◌else◌}
+-- application of a name to built phrases, or a call of `claim` or `mp` with built phrases.
+use Rattle.std.specs.Prelude.{ℕ, Bool, true, false, ◌||◌, List, Option, Some, None, codes, if◌then◌else◌}
 use Rattle.std.specs.Str.{bytes_eq}
 use Rattle.ath_syntax.specs.declared.place.Pos.{Pos}
-use Rattle.ath_syntax.specs.Tree.{Phrase, name_at, variable_at, ascribe_at, apply_at, call_at, Phrases, no_phrases, more_phrases, is_deduction, Statement, domain_is, datatype_is, declare_is, define_is, define_fun_is, assert_is, load_is, phrase_is}
+use Rattle.ath_syntax.specs.Tree.{Phrase, name_at, variable_at, ascribe_at, apply_at, call_at, Phrases, no_phrases, more_phrases, Statement, domain_is, datatype_is, declare_is, define_is, define_fun_is, assert_is, load_is, phrase_is}
 use Rattle.ath_env.specs.LookUp.{text_of}
 use Rattle.ath_syntax.specs.Places.{place}
 
@@ -20,10 +20,6 @@ is_head x = false
 abbrev pub is_method_name : List (List ℕ) → Phrase → Bool
 is_method_name names x = is_name names (codes "mp") x || is_name names (codes "claim") x
 
-abbrev pub are_expressions : Phrases → Bool
-are_expressions no_phrases = true
-are_expressions (more_phrases x xs) = not (is_deduction x) && are_expressions xs
-
 -- the first place that is there
 abbrev pub or_else : Option Pos → Option Pos → Option Pos
 or_else None q = q
@@ -36,7 +32,7 @@ abbrev mutual
   unbuilt names (variable_at p x k s) = None
   unbuilt names (ascribe_at p x s) = unbuilt names x
   unbuilt names (apply_at p f xs) = if is_head f then unbuilt_among names xs else Some p
-  unbuilt names (call_at p f xs) = if is_method_name names f && are_expressions xs then unbuilt_among names xs else Some p
+  unbuilt names (call_at p f xs) = if is_method_name names f then unbuilt_among names xs else Some p
   unbuilt names x = Some (place x)
 
   pub unbuilt_among : List (List ℕ) → Phrases → Option Pos

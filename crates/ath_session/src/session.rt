@@ -24,7 +24,7 @@ ghost use Rattle.ath_session.specs.Sound.{IsSound, AreFollowing};
 ghost use Rattle.ath_session.specs.State.{first_state, joining, with_names};
 
 use crate::unbuilt::unbuilt_in;
-use ath_base::{Base, Origin};
+use ath_base::{Base, Origin, ScopeId};
 use ath_construction::universal_closure;
 use ath_declarations::{DeclareError, declare, declare_domain};
 use ath_env::{Value, sentence};
@@ -142,6 +142,7 @@ impl Session {
             sig: Signature::new(alloc)?,
             store: Store::new(alloc),
             base: Base::new(alloc),
+            scope: ScopeId(0),
             phrases: Phrases::new(alloc),
             fuel,
             fresh: Fresh::first(),
@@ -319,7 +320,8 @@ impl Session {
         ensures sig { self.new.world.sig ≡ self.old.world.sig }
         ensures state { OnOk result (state_of self.new.world ≡ joining (state_of self.old.world) origin (sent_at self.old.world.store.sents p.0)) }
     {
-        self.world.base.add(p, origin)?;
+        let scope = self.world.base.add(self.world.scope, p, origin)?;
+        self.world.scope = scope;
         Ok(())
     }
 

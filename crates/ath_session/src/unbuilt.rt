@@ -3,8 +3,8 @@
 ghost use Rattle.std.specs.Prelude.{◌≡◌, ◌<◌, option_map, IfSome};
 ghost use Rattle.std.specs.List.{All};
 ghost use Rattle.ath_syntax.specs.Stands.{IsPhrase, ArePhrases, IsStatement};
-ghost use Rattle.ath_syntax.specs.Tree.{Phrase, Phrases as PhraseTrees, Statement};
-ghost use Rattle.ath_session.specs.Unbuilt.{is_name, is_head, is_method_name, are_expressions, unbuilt, unbuilt_in};
+ghost use Rattle.ath_syntax.specs.Tree.{Phrase, Statement};
+ghost use Rattle.ath_session.specs.Unbuilt.{is_name, is_head, is_method_name, unbuilt, unbuilt_in};
 ghost use Rattle.ath_session.specs.Parts.{ArePartsOf, parts};
 
 use ath_env::text_of;
@@ -40,18 +40,6 @@ fn is_method_name(names: &Names, phrases: &Phrases, phrase: PhraseId) -> bool
     is_name(names, phrases, phrase, "mp") || is_name(names, phrases, phrase, "claim")
 }
 
-fn are_expressions(phrases: &Phrases, parts: &[PhraseId]) -> bool
-    requires { (xs : PhraseTrees) × ArePhrases phrases.now parts.now xs }
-    ensures { (xs : PhraseTrees) → ArePhrases phrases.now parts.now xs → result ≡ are_expressions xs }
-{
-    for part in parts {
-        if phrases.node(*part).deduction {
-            return false;
-        }
-    }
-    true
-}
-
 /// The parts of a built node, which have to be built too; none where the node isn't built.
 fn built_parts<'a>(names: &Names, phrases: &'a Phrases, phrase: PhraseId) -> Option<&'a [PhraseId]>
     requires { (x : Phrase) × IsPhrase phrases.now phrase x }
@@ -69,9 +57,8 @@ fn built_parts<'a>(names: &Names, phrases: &'a Phrases, phrase: PhraseId) -> Opt
             None
         }
         Form::Call(head, parts) => {
-            let parts = parts.as_slice();
-            if is_method_name(names, phrases, *head) && are_expressions(phrases, parts) {
-                return Some(parts);
+            if is_method_name(names, phrases, *head) {
+                return Some(parts.as_slice());
             }
             None
         }

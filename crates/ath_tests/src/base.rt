@@ -1,4 +1,4 @@
-use ath_base::{Base, Origin};
+use ath_base::{Base, Origin, ScopeId};
 use ath_sorts::Sym;
 use ath_sorts::sorts::con;
 use ath_terms::{SentNode, Store};
@@ -26,14 +26,23 @@ fn the_newest_entry_is_answered(rt: HostRuntime) -> Result<(), Fail> {
     let q = store.raw_sent(alloc, &SentNode::Eq(x, x))?;
     let r = store.raw_sent(alloc, &SentNode::Eq(x, y))?;
     let mut base = Base::new(alloc);
-    assert!(rt; base.holds(&store, p).is_none());
-    base.add(p, Origin::Hypothesis)?;
-    base.add(q, Origin::Concluded)?;
-    assert!(rt; base.holds(&store, r).is_none());
-    base.add(r, Origin::Asserted)?;
-    let Some(entry) = base.holds(&store, p) else {
+    let none = ScopeId(0);
+    assert!(rt; base.holds(&store, none, p).is_none());
+    let first = base.add(none, p, Origin::Hypothesis)?;
+    let second = base.add(first, q, Origin::Concluded)?;
+    assert!(rt; base.holds(&store, second, r).is_none());
+    let third = base.add(second, r, Origin::Asserted)?;
+    let Some(entry) = base.holds(&store, third, p) else {
         panic!(rt; "it doesn't hold");
     };
     assert!(rt; matches!(entry.origin, Origin::Concluded));
+    // older scopes keep their entries, and others aren't seen
+    let other = base.add(first, r, Origin::Concluded)?;
+    let Some(entry) = base.holds(&store, other, p) else {
+        panic!(rt; "it doesn't hold");
+    };
+    assert!(rt; matches!(entry.origin, Origin::Hypothesis));
+    assert!(rt; base.holds(&store, second, r).is_none());
+    assert!(rt; base.holds(&store, none, r).is_none());
     Ok(())
 }

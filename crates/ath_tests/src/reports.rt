@@ -139,6 +139,39 @@ const DECLARATIONS: &[u8] =
 const DECLARATION_LINES: &str =
     "Domain: N\nError: \"r30.ath\":2:1: Redeclared N\nError: \"r30.ath\":3:1: UnknownSort M\nError: \"r30.ath\":4:1: Arity N\nError: \"r30.ath\":5:1: LooseParam 'T\nError: \"r30.ath\":6:1: NotBuilt\n";
 
+/// Deductions as arguments. Each concludes for the later arguments and for the method; of these conclusions a directive leaves
+/// its own alone, and after a refusal none.
+const NESTED: [(&[u8], &str, Status); 4] = [
+    (
+        b"declare A, B, C: Boolean\nassert (if A B)\nassert (if B C)\nassert A\n(!mp (if B C) (!mp (if A B) A))\n(!claim C)\n(!claim B)\n(!mp (!claim (if A B)) (!claim A))",
+        "Symbols: A, B, C\nAssertion: (if A B)\nAssertion: (if B C)\nAssertion: A\nTheorem: C\nTheorem: C\nError: \"x.ath\":7:1: NotInBase B\nTheorem: B\n",
+        Status::Errors,
+    ),
+    (
+        b"declare A, B, C: Boolean\nassert (if A (if B C))\nassert A\n(!mp (!mp (if A (if B C)) A) (!claim (if B C)))\n(!mp (!mp (if A (if B C)) A) B)\n(!claim (if B C))",
+        "Symbols: A, B, C\nAssertion: (if A (if B C))\nAssertion: A\nError: \"x.ath\":4:1: WrongShape 2\nError: \"x.ath\":5:1: NotInBase B\nError: \"x.ath\":6:1: NotInBase (if B C)\n",
+        Status::Errors,
+    ),
+    (
+        b"declare A, B, C: Boolean\nassert (if A (if B C))\nassert A\n(!mp (!mp (if A (if B C)) A) (!mp (if B C) B))\nassert B\n(!mp (!mp (if A (if B C)) A) B)\n(!claim (!claim B))",
+        "Symbols: A, B, C\nAssertion: (if A (if B C))\nAssertion: A\nError: \"x.ath\":4:30: NotInBase B\nAssertion: B\nTheorem: C\nTheorem: B\n",
+        Status::Errors,
+    ),
+    (
+        b"declare A: Boolean\nassert A\n(!claim (!claim (!claim A)))\n(!claim (!claim))\n(!mp (!claim A))\n(!claim (!claim A) (!claim A))",
+        "Symbols: A\nAssertion: A\nTheorem: A\nError: \"x.ath\":4:9: ArgCount 1 0\nError: \"x.ath\":5:1: ArgCount 2 1\nError: \"x.ath\":6:1: ArgCount 1 2\n",
+        Status::Errors,
+    ),
+];
+
+#[test]
+fn arguments_conclude_for_later_ones(rt: HostRuntime) -> Result<(), Fail> {
+    for (script, lines, status) in NESTED {
+        expect_lines(&rt, script, lines, status)?;
+    }
+    Ok(())
+}
+
 const STEPS: File = (
     "steps.ath",
     b"(declare A Boolean)\n(assert A)\n(!claim A)\nA\n",

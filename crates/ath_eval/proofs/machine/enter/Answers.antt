@@ -17,5 +17,5 @@ returns-then-levels-eq0-clause-steps c = let a = c.args in let s = a.w.now.store
 
 pub returns-clause-steps : goal.returns-clause-steps
 returns-clause-steps c = let a = c.args in let s = a.w.now.store in let nodes = a.w.now.phrases in let r = reading a.w.now in let e = c.enter_form.new in let o = c.in_ok-state in
-    rw o.ensures.works.fuel (steps_after r nodes s _ _ _ _ e.w.store (a.w.now.fuel - 1) e.w.fresh o.state e.stack.items (omega arith)
+    rw o.ensures.works.fuel (steps_after nodes s _ _ _ _ _ e.w.store (a.w.now.fuel - 1) e.w.fresh o.state e.stack.items (omega arith)
     (λ out m. enters_form r nodes s a.w.now.fresh a.phrase a.stack.now.items out a.levels a.w.now.fuel c.if-w-eq0.false c.if-levels-eq0.false m) (o.ensures.steps (a.w.now.fuel - 1)))

@@ -3,19 +3,19 @@ use Rattle.ath_terms.specs.Trees.{sent_at}
 use Rattle.ath_env.specs.Values.{sentence_of}
 use Rattle.ath_env.specs.Stands.{value_at}
 use Rattle.ath_env.proofs.ValueLaws.{sentence-some}
-use Rattle.ath_base.specs.Stands.{entries_of}
-use Rattle.ath_base.proofs.Newest.{entries_grow}
+use Rattle.ath_base.specs.Stands.{entries_in, entries_of}
+use Rattle.ath_base.proofs.Scopes.{entries_grow, keeps-none}
 use Rattle.ath_eval.specs.Methods as methods
 use Rattle.ath_eval.proofs.Ponens.{same_answer}
 use Rattle.ath_eval.proofs.methods.from_implication.Goals as goal
 
 pub returns-in_ok-outcome-in-Some-clause-outcome : goal.returns-in_ok-outcome-in-Some-clause-outcome
-returns-in_ok-outcome-in-Some-clause-outcome c = let a = c.args in let s = a.w.now.store in let es = a.w.now.base.entries.items in let t = c.sentence.new.store in
+returns-in_ok-outcome-in-Some-clause-outcome c = let a = c.args in let s = a.w.now.store in let w = a.w.now in let ns = w.base.nodes.items in let k = w.scope.0 in let t = c.sentence.new.store in
     let f = sentence-some t c.in_ok-q.field-0 (sentence_of (value_at s a.v)) c.in-Some.q c.in_ok-q.ensures.sentence c.in-Some.is in
     let e : sentence_of (value_at s a.v) ≡ Some (sent_at t.sents c.in-Some.q.0) = f.1 ∙ ap Some (sym f.2.1) in
     let g = c.in_ok-q.ensures.grows in
-    let b : entries_of t es ≡ entries_of s es = entries_grow s t g es a.w.now.in_store in
+    let b : entries_of t (entries_in ns k) ≡ entries_of s (entries_in ns k) = entries_grow s t g ns ns k w.in_store w.inside (keeps-none ns) in
     let p : sent_at t.sents a.p.0 ≡ sent_at s.sents a.p.0 = g.same_sents a.p.0 c.requires.implication in
     let l : sent_at t.sents a.parts.0.0 ≡ sent_at s.sents a.parts.0.0 = g.same_sents a.parts.0.0 c.requires.joined.0 in
     let r : sent_at t.sents a.parts.1.0 ≡ sent_at s.sents a.parts.1.0 = g.same_sents a.parts.1.0 c.requires.joined.1 in
-    same_answer t c.in_ok-outcome-in-Some.outcome (methods.from_implication (entries_of s es) (sent_at s.sents a.p.0) (sent_at s.sents a.parts.0.0) (sent_at s.sents a.parts.1.0) (sentence_of (value_at s a.v)) a.at) (methods.detached (entries_of t es) (sent_at t.sents a.p.0) (sent_at t.sents a.parts.0.0) (sent_at t.sents a.parts.1.0) (sent_at t.sents c.in-Some.q.0) a.at) (rw (e, b, p, l, r) refl) c.in_ok-outcome-in-Some.ensures
+    same_answer t c.in_ok-outcome-in-Some.outcome (methods.from_implication (entries_of s (entries_in ns k)) (sent_at s.sents a.p.0) (sent_at s.sents a.parts.0.0) (sent_at s.sents a.parts.1.0) (sentence_of (value_at s a.v)) a.at) (methods.detached (entries_of t (entries_in ns k)) (sent_at t.sents a.p.0) (sent_at t.sents a.parts.0.0) (sent_at t.sents a.parts.1.0) (sent_at t.sents c.in-Some.q.0) a.at) (rw (e, b, p, l, r) refl) c.in_ok-outcome-in-Some.ensures

@@ -3,16 +3,16 @@ use Rattle.ath_terms.specs.Trees.{sent_at}
 use Rattle.ath_env.specs.Values.{sentence_of}
 use Rattle.ath_env.specs.Stands.{value_at}
 use Rattle.ath_env.proofs.ValueLaws.{sentence-some, value_at-kept}
-use Rattle.ath_base.specs.Stands.{entries_of}
-use Rattle.ath_base.proofs.Newest.{entries_grow}
+use Rattle.ath_base.specs.Stands.{entries_in, entries_of}
+use Rattle.ath_base.proofs.Scopes.{entries_grow, keeps-none}
 use Rattle.ath_eval.specs.Methods as methods
 use Rattle.ath_eval.proofs.Ponens.{same_answer}
 use Rattle.ath_eval.proofs.methods.mp.Goals as goal
 
 pub returns-in_ok-outcome-in-Some-clause-outcome : goal.returns-in_ok-outcome-in-Some-clause-outcome
-returns-in_ok-outcome-in-Some-clause-outcome c = let a = c.args in let s = a.w.now.store in let es = a.w.now.base.entries.items in let t = c.sentence.new.store in
+returns-in_ok-outcome-in-Some-clause-outcome c = let a = c.args in let s = a.w.now.store in let w = a.w.now in let ns = w.base.nodes.items in let k = w.scope.0 in let t = c.sentence.new.store in
     let f = sentence-some t c.in_ok-p.field-0 (sentence_of (value_at s a.u)) c.in-Some.p c.in_ok-p.ensures.sentence c.in-Some.is in
     let e : sentence_of (value_at s a.u) ≡ Some (sent_at t.sents c.in-Some.p.0) = f.1 ∙ ap Some (sym f.2.1) in
     let v : value_at t a.v ≡ value_at s a.v = value_at-kept s t a.v c.in_ok-p.ensures.grows c.requires.premise in
-    let b : entries_of t es ≡ entries_of s es = entries_grow s t c.in_ok-p.ensures.grows es a.w.now.in_store in
-    same_answer c.modus_ponens.new.w.store c.in_ok-outcome-in-Some.outcome (methods.mp (entries_of s es) (sentence_of (value_at s a.u)) (sentence_of (value_at s a.v)) a.at) (methods.modus_ponens (entries_of t es) (sent_at t.sents c.in-Some.p.0) (sentence_of (value_at t a.v)) a.at) (rw (e, v, b) refl) c.in_ok-outcome-in-Some.ensures.outcome
+    let b : entries_of t (entries_in ns k) ≡ entries_of s (entries_in ns k) = entries_grow s t c.in_ok-p.ensures.grows ns ns k w.in_store w.inside (keeps-none ns) in
+    same_answer c.modus_ponens.new.w.store c.in_ok-outcome-in-Some.outcome (methods.mp (entries_of s (entries_in ns k)) (sentence_of (value_at s a.u)) (sentence_of (value_at s a.v)) a.at) (methods.modus_ponens (entries_of t (entries_in ns k)) (sent_at t.sents c.in-Some.p.0) (sentence_of (value_at t a.v)) a.at) (rw (e, v, b) refl) c.in_ok-outcome-in-Some.ensures.outcome

@@ -11,7 +11,7 @@ invariant_of-w-clause-sorted c = let l = c.loop-i in let v = c.index-vars-i in
 
 pub loop-i-preserved : goal.loop-i-preserved
 loop-i-preserved c = let w = c.args.w.now in let l = c.loop-i in let i = l.invariant in let v = c.index-vars-i in let k = c.in-Ok in record {
-  rests = rests_then w l.w _ i.rests (record { world = stored l.w _ c.quantify.ensures.grows refl refl refl refl; fuel = refl; fresh = refl });
+  rests = rests_then w l.w _ i.rests (record { world = stored l.w _ c.quantify.ensures.grows refl refl refl refl; fuel = refl; fresh = refl; scope = refl });
   within = omega arith;
   inside = k.ensures.inside;
   built = over_next w.sig c.args.q c.args.vars.now l.i v.result c.loop-i-test.true i.within v.is (sent_at l.w.store.sents l.sent.0) _ i.built c.quantify.new.store k.p (k.ensures.built w.sig (rw i.rests.world.signature at l.w.sorted));

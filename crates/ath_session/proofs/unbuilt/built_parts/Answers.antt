@@ -1,11 +1,9 @@
-use Rattle.std.proofs.Common.{◌≡◌, ◌<◌, ◌&&◌, Bool, true, false, List, Some, refl, sym, ◌∙◌, subst}
+use Rattle.std.proofs.Common.{◌<◌, true, false, List, Some, sym, ◌∙◌, subst}
 use Rattle.std.specs.List.{All}
 use Rattle.ath_syntax.specs.declared.node.PhraseId.{PhraseId}
-use Rattle.ath_session.specs.Unbuilt as built
 use Rattle.ath_session.specs.Parts.{ArePartsOf, parts}
 use Rattle.ath_session.proofs.UnbuiltLaws.{apply_here, call_here, name_parts, variable_parts, ascribe_parts, apply_parts, call_parts, no_parts_here, ascribe_below, apply_below, call_below}
 use Rattle.ath_session.proofs.unbuilt.built_parts.Goals as goal
-use Rattle.ath_session.proofs.unbuilt.built_parts.Goals.{else-is_method_name-via-then-is_method_name+else-are_expressions, else-is_method_name-via-else-is_method_name}
 
 pub is_head-requires : goal.is_head-requires
 is_head-requires c =
@@ -27,31 +25,14 @@ is_method_name-requires c =
     let a = call_here c.args.phrases.now c.args.phrase c.node.result.now c.in-Call.head c.in-Call.parts c.node.ensures.node c.in-Call.is c.requires.0 c.requires.1 in
     (a.head, a.is_head)
 
-pub are_expressions-requires : goal.are_expressions-requires
-are_expressions-requires c =
-    let a = call_here c.args.phrases.now c.args.phrase c.node.result.now c.in-Call.head c.in-Call.parts c.node.ensures.node c.in-Call.is c.requires.0 c.requires.1 in
-    (a.args, rw c.as_slice-parts.ensures a.are_args)
+pub returns-then-is_method_name-clause-parts : goal.returns-then-is_method_name-clause-parts
+returns-then-is_method_name-clause-parts c = λ x h.
+    subst (λ (is : List PhraseId). ArePartsOf c.args.phrases.now (Some is) (parts c.args.names.now x)) (sym c.as_slice-in-Call.ensures)
+    (call_parts c.args.phrases.now c.args.names.now true c.args.phrase c.node.result.now c.in-Call.head c.in-Call.parts c.node.ensures.node c.in-Call.is (λ y k. sym c.if-is_method_name.true ∙ c.is_method_name.ensures y k) x h)
 
-both : (a b c d : Bool) → a ≡ true → b ≡ true → a ≡ c → b ≡ d → true ≡ (c && d)
-both a b c d p q r s = sym (rw (← r, ← s, p, q) refl)
-
-first_fails : (a c d : Bool) → a ≡ false → a ≡ c → false ≡ (c && d)
-first_fails a c d p r = sym (rw (← r, p) refl)
-
-second_fails : (b c d : Bool) → b ≡ false → b ≡ d → false ≡ (c && d)
-second_fails b true d p r = sym p ∙ r
-second_fails b false d p r = refl
-
-pub returns-then-are_expressions-clause-parts : goal.returns-then-are_expressions-clause-parts
-returns-then-are_expressions-clause-parts c = λ x h.
-    subst (λ (is : List PhraseId). ArePartsOf c.args.phrases.now (Some is) (parts c.args.names.now x)) (sym c.as_slice-parts.ensures)
-    (call_parts c.args.phrases.now c.args.names.now true c.args.phrase c.node.result.now c.in-Call.head c.in-Call.parts c.node.ensures.node c.in-Call.is
-    (λ y ys k m. both c.is_method_name.result c.are_expressions.result _ _ c.if-is_method_name.true c.if-are_expressions.true (c.is_method_name.ensures y k) (c.are_expressions.ensures ys (rw c.as_slice-parts.ensures m)))
-    x h)
-
-pub returns-then-are_expressions-clause-smaller : goal.returns-then-are_expressions-clause-smaller
-returns-then-are_expressions-clause-smaller c =
-    subst (λ (is : List PhraseId). All (λ i. i.0 < c.args.phrase.0) is) (sym c.as_slice-parts.ensures)
+pub returns-then-is_method_name-clause-smaller : goal.returns-then-is_method_name-clause-smaller
+returns-then-is_method_name-clause-smaller c =
+    subst (λ (is : List PhraseId). All (λ i. i.0 < c.args.phrase.0) is) (sym c.as_slice-in-Call.ensures)
     (call_below c.args.phrases.now c.args.phrase.0 c.node.result.now.deduction c.node.result.now.form c.in-Call.head c.in-Call.parts c.in-Call.is c.node.ensures.fits)
 
 pub returns-in-Name-clause-parts : goal.returns-in-Name-clause-parts
@@ -63,11 +44,7 @@ returns-else-is_head-clause-parts c =
 
 pub returns-else-is_method_name-clause-parts : goal.returns-else-is_method_name-clause-parts
 returns-else-is_method_name-clause-parts c =
-    call_parts c.args.phrases.now c.args.names.now false c.args.phrase c.node.result.now c.in-Call.head c.in-Call.parts c.node.ensures.node c.in-Call.is
-    (λ y ys k m. elim c.else-is_method_name.branch [
-      | else-is_method_name-via-then-is_method_name+else-are_expressions w ↦ second_fails w.are_expressions.result (built.is_method_name c.args.names.now y) _ w.if-are_expressions.false (w.are_expressions.ensures ys (rw c.as_slice-parts.ensures m))
-      | else-is_method_name-via-else-is_method_name w ↦ first_fails c.is_method_name.result _ (built.are_expressions ys) w.if-is_method_name.false (c.is_method_name.ensures y k)
-    ])
+    call_parts c.args.phrases.now c.args.names.now false c.args.phrase c.node.result.now c.in-Call.head c.in-Call.parts c.node.ensures.node c.in-Call.is (λ y k. sym c.if-is_method_name.false ∙ c.is_method_name.ensures y k)
 
 pub returns-in_default : goal.returns-in_default
 returns-in_default c = record {

@@ -22,16 +22,6 @@ use Rattle.ath_trees.proofs.BinderLaws.{at_sorts-met, at_sorts-unmet}
 use Rattle.ath_subst.proofs.SentLaws.{IsBound}
 
 module _ (f : SVar → Sort) where
-  -- another variable has to have the name and the index
-  pub meets-none : (v w : Var) → is_namesake v w ≡ false → false ≡ (not (same_var v w) && same_var (var_under f v) (var_under f w))
-  meets-none v w e = rw e refl
-
-  pub meets-same : (v w : Var) → same_var v w ≡ true → false ≡ (not (same_var v w) && same_var (var_under f v) (var_under f w))
-  meets-same v w e = rw e refl
-
-  pub meets-other : (v w : Var) (b : Bool) → same_var v w ≡ false → b ≡ same_var (var_under f v) (var_under f w) → b ≡ (not (same_var v w) && same_var (var_under f v) (var_under f w))
-  meets-other v w b e q = rw e q
-
   -- the two ways
   pub met-binder : (v : Var) (p : Sent) → is_met f v (free_vars p) ≡ true → (binder_at f v p ≡ renewed v (every_var p)) × (body_at f v p ≡ renamed v (renewed v (every_var p)) p)
   met-binder v p t = rw t (refl, refl)

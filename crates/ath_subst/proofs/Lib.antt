@@ -10,3 +10,4 @@ pub mod WithinLaws
 pub mod SentWithin
 pub mod KeptLaws
 pub mod KeepingLaws
+pub mod MeetingLaws

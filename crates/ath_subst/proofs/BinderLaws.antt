@@ -1,5 +1,5 @@
 -- A binder with its body, before and after other sorts.
-use Rattle.std.proofs.Common.{◌≡◌, ℕ, ◌+◌, ◌<◌, ◌&&◌, Bool, true, false, not, refl, sym, ◌∙◌, ap, subst, arith}
+use Rattle.std.proofs.Common.{◌≡◌, ℕ, ◌+◌, ◌<◌, true, false, refl, sym, ◌∙◌, ap, subst, arith}
 use Rattle.ath_sorts.specs.declared.sorts.SVar.{SVar}
 use Rattle.ath_sorts.specs.declared.sorts.Sort.{Sort}
 use Rattle.ath_sorts.specs.Signature.{Signature}
@@ -12,7 +12,7 @@ use Rattle.ath_trees.specs.Occurrences.{every_var, renewed}
 use Rattle.ath_trees.specs.Renamed.{renamed}
 use Rattle.ath_trees.specs.SortUnder.{is_met, sent_at_sorts}
 use Rattle.ath_trees.specs.Under.{var_under}
-use Rattle.ath_trees.specs.Variables.{is_namesake, same_var, free_vars}
+use Rattle.ath_trees.specs.Variables.{free_vars}
 use Rattle.ath_trees.specs.WellSorted.{is_valid_sort, HasSort, var_has, IsWellSorted}
 use Rattle.ath_terms.specs.Trees.{Trees, sent_at, IsSent}
 use Rattle.ath_subst.specs.Binders.{binder_at, body_at}

@@ -16,7 +16,7 @@ use Rattle.ath_trees.specs.declared.node.SentId.{SentId}
 use Rattle.ath_trees.specs.declared.node.TermId.{TermId}
 use Rattle.ath_trees.specs.declared.node.Var.{Var}
 use Rattle.ath_trees.specs.Occurrences.{is_among, is_named}
-use Rattle.ath_trees.specs.Tree.{Term, Terms, none, more, var, app, listed, Sent, atom, equal, negated, joined, bound}
+use Rattle.ath_trees.specs.Tree.{Term, more, var, app, listed, Sent, atom, equal, joined, bound}
 use Rattle.ath_trees.specs.Under.{var_under}
 use Rattle.ath_trees.specs.Variables.{is_namesake, same_var, with_terms, term_vars, free_vars}
 use Rattle.ath_trees.proofs.Occurring.{by_cases, or-left, or-right, same_var-refl, same_var-true, among-append, among-more, among-equal, among-joined, among-bound_of, among-of_bound}

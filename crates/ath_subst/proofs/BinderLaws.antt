@@ -1,5 +1,5 @@
 -- A binder with its body, before and after other sorts.
-use Rattle.std.proofs.Common.{◌≡◌, ℕ, ◌+◌, ◌<◌, ◌&&◌, Bool, true, false, not, refl, sym, ◌∙◌, ap, subst, arith}
+use Rattle.std.proofs.Common.{◌≡◌, ℕ, ◌+◌, ◌<◌, true, false, refl, sym, ◌∙◌, ap, subst, arith}
 use Rattle.ath_sorts.specs.declared.sorts.SVar.{SVar}
 use Rattle.ath_sorts.specs.declared.sorts.Sort.{Sort}
 use Rattle.ath_sorts.specs.Signature.{Signature}
@@ -12,7 +12,7 @@ use Rattle.ath_trees.specs.Occurrences.{every_var, renewed}
 use Rattle.ath_trees.specs.Renamed.{renamed}
 use Rattle.ath_trees.specs.SortUnder.{is_met, sent_at_sorts}
 use Rattle.ath_trees.specs.Under.{var_under}
-use Rattle.ath_trees.specs.Variables.{is_namesake, same_var, free_vars}
+use Rattle.ath_trees.specs.Variables.{free_vars}
 use Rattle.ath_trees.specs.WellSorted.{is_valid_sort, HasSort, var_has, IsWellSorted}
 use Rattle.ath_terms.specs.Trees.{Trees, sent_at, IsSent}
 use Rattle.ath_subst.specs.Binders.{binder_at, body_at}
@@ -22,16 +22,6 @@ use Rattle.ath_trees.proofs.BinderLaws.{at_sorts-met, at_sorts-unmet}
 use Rattle.ath_subst.proofs.SentLaws.{IsBound}
 
 module _ (f : SVar → Sort) where
-  -- another variable has to have the name and the index
-  pub meets-none : (v w : Var) → is_namesake v w ≡ false → false ≡ (not (same_var v w) && same_var (var_under f v) (var_under f w))
-  meets-none v w e = rw e refl
-
-  pub meets-same : (v w : Var) → same_var v w ≡ true → false ≡ (not (same_var v w) && same_var (var_under f v) (var_under f w))
-  meets-same v w e = rw e refl
-
-  pub meets-other : (v w : Var) (b : Bool) → same_var v w ≡ false → b ≡ same_var (var_under f v) (var_under f w) → b ≡ (not (same_var v w) && same_var (var_under f v) (var_under f w))
-  meets-other v w b e q = rw e q
-
   -- the two ways
   pub met-binder : (v : Var) (p : Sent) → is_met f v (free_vars p) ≡ true → (binder_at f v p ≡ renewed v (every_var p)) × (body_at f v p ≡ renamed v (renewed v (every_var p)) p)
   met-binder v p t = rw t (refl, refl)

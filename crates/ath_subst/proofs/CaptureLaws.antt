@@ -13,7 +13,7 @@ use Rattle.ath_trees.specs.Substitution.{other, subst_term, subst_sent}
 use Rattle.ath_trees.specs.Tree.{Term, Sent, bound}
 use Rattle.ath_trees.specs.Variables.{same_var, term_vars, free_vars}
 use Rattle.ath_trees.specs.Groups.{may_have}
-use Rattle.ath_trees.proofs.Occurring.{by_cases, unnamed}
+use Rattle.ath_trees.proofs.Occurring.{by_cases}
 use Rattle.ath_trees.proofs.Renaming.{depth-renamed}
 use Rattle.ath_trees.proofs.SubstForms.{subst-shadowed, subst-bare, subst-plain, subst-captured}
 use Rattle.ath_trees.specs.WellSorted.{HasSort}
@@ -97,7 +97,7 @@ pub fit-has : (sig : Signature) (s : Trees) (by : ℕ) (r : Sort) → IsSortedIn
 fit-has sig s by r h l e = subst (HasSort sig (term_at s.terms by)) e (h.terms by l)
 
 -- ---- what the marks of a tree tell to be absent
-not-set : (b : Bool) → not b ≡ true → b ≡ false
+pub not-set : (b : Bool) → not b ≡ true → b ≡ false
 not-set true e = absurd (cc)
 not-set false e = refl
 
@@ -105,8 +105,8 @@ module _ (s : Trees) (m : Marks) (x : Var) (b : Bool) (is : b ≡ may_have m.gro
   lacking : may_have m.groups x ≡ false
   lacking = sym is ∙ not-set b none
 
-  pub term-lacks : (t : ℕ) → IsTermMarked s t m → is_among x (term_vars (term_at s.terms t)) ≡ false
-  term-lacks t h = unnamed x (term_vars (term_at s.terms t)) (h.tree.lacks x lacking [])
+  pub term-unnamed : (t : ℕ) → IsTermMarked s t m → is_named x (term_vars (term_at s.terms t)) ≡ false
+  term-unnamed t h = h.tree.lacks x lacking []
 
-  pub sent-lacks : (p : ℕ) → IsSentMarked s (sent_at s.sents p) m → is_among x (free_vars (sent_at s.sents p)) ≡ false
-  sent-lacks p h = unnamed x (free_vars (sent_at s.sents p)) (h.lacks x lacking [])
+  pub sent-unnamed : (p : ℕ) → IsSentMarked s (sent_at s.sents p) m → is_named x (free_vars (sent_at s.sents p)) ≡ false
+  sent-unnamed p h = h.lacks x lacking []

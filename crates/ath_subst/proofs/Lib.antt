@@ -7,6 +7,6 @@ pub mod CaptureLaws
 pub mod CountLaws
 pub mod GivenLaws
 pub mod WithinLaws
-pub mod SentWithin
 pub mod KeptLaws
 pub mod KeepingLaws
+pub mod MeetingLaws

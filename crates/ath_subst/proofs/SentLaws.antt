@@ -33,6 +33,7 @@ use Rattle.ath_terms.specs.Lists.{AreSents}
 use Rattle.ath_terms.specs.Nodes.{parts_tree, sent_tree, conn_tree, arity, IsSentBelow}
 use Rattle.ath_terms.specs.Trees.{Trees, term_at, sent_at, Grows, IsTerm, IsSent}
 use Rattle.ath_terms.proofs.Grow.{sent-kept}
+use Rattle.ath_subst.proofs.StepLaws.{map-take-next}
 
 pub sents-kept : (s u : Trees) (ids : List SentId) (xs : List Sent) → Grows s u → AreSents s ids xs → AreSents u ids xs
 sents-kept s u [] [] g h = tt
@@ -45,11 +46,6 @@ sents-push u [] [] i x h k = (k, tt)
 sents-push u (j ∷ ids) (y ∷ xs) i x h k = (h.0, sents-push u ids xs i x h.1 k)
 sents-push u [] (y ∷ xs) i x h k = absurd h
 sents-push u (j ∷ ids) [] i x h k = absurd h
-
-map-take-next : {A B : Type 0} (f : A → B) (xs : List A) (i : ℕ) (d : A) → i < length xs → map f (take (i + 1) xs) ≡ map f (take i xs) ++ f (get_or xs i d) ∷ []
-map-take-next f [] i d h = absurd (omega arith)
-map-take-next f (x ∷ xs) zero d h = refl
-map-take-next f (x ∷ xs) (suc i) d h = let s : suc i + 1 ≡ suc (i + 1) = omega arith in rw s (ap (λ l. f x ∷ l) (map-take-next f xs i d (omega arith)))
 
 -- the images of the sentences of some ids
 abbrev pub sent_images : (Sent → Sent) → Trees → List SentId → List Sent

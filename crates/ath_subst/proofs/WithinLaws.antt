@@ -1,63 +1,42 @@
--- Whether the sorts of a term under a substitution are within the limits, as its walk finds it.
-use Rattle.std.proofs.Common.{◌≡◌, ℕ, zero, suc, ◌+◌, ◌<◌, ◌≤◌, ◌&&◌, Bool, true, false, List, [], ◌∷◌, length, map, take, get_or, refl, sym, ◌∙◌, ap, arith}
+-- Whether the sorts of a term or a sentence under a substitution are within the limits, as its walk finds it.
+use Rattle.std.proofs.Common.{◌≡◌, ℕ, ◌+◌, ◌<◌, ◌≤◌, ◌&&◌, Bool, true, false, List, [], ◌∷◌, length, map, take, get_or, refl, sym, ◌∙◌, ap}
 use Rattle.std.specs.List.{list_all}
 use Rattle.std.proofs.lemmas.List.{take_all}
+use Rattle.std.proofs.lemmas.List.Folds.{list_all_more, list_all-map}
 use Rattle.ath_sorts.specs.declared.sorts.Sym.{Sym}
 use Rattle.ath_sorts.specs.declared.sorts.SVar.{SVar}
 use Rattle.ath_sorts.specs.declared.sorts.Sort.{Sort}
 use Rattle.ath_sorts.specs.Sorts.{is_small, apply_to}
 use Rattle.ath_sorts.specs.Signature.{Signature}
 use Rattle.ath_trees.specs.declared.node.Var.{Var as Variable}
+use Rattle.ath_trees.specs.declared.node.SentId.{SentId}
 use Rattle.ath_trees.specs.declared.node.TermId.{TermId}
 use Rattle.ath_terms.specs.declared.node.TermNode.{TermNode}
 use Rattle.ath_terms.specs.declared.node.TermNode.TheVariants.{Var, App}
-use Rattle.ath_trees.specs.Tree.{Term, var, app, listed}
-use Rattle.ath_terms.specs.Trees.{Trees, term_at, sort_at}
+use Rattle.ath_trees.specs.Tree.{Term, var, app, listed, Sent}
+use Rattle.ath_terms.specs.Trees.{Trees, term_at, sort_at, sent_at}
 use Rattle.ath_terms.specs.Nodes.{term_tree}
-use Rattle.ath_trees.specs.SortsIn.{sort_in, has_small_sorts, have_small_sorts}
+use Rattle.ath_trees.specs.SortsIn.{sort_in, has_small_sorts, have_small_sorts, sent_has_small_sorts}
 use Rattle.ath_terms.specs.SortsIn.{IsSortedIn}
-use Rattle.ath_trees.specs.Under.{term_under, terms_under}
+use Rattle.ath_trees.specs.Under.{term_under, terms_under, sent_under}
 use Rattle.ath_trees.proofs.UnderLaws.{sort_in-under}
 
 abbrev pub terms_within : Signature → (SVar → Sort) → List Term → List TermId → Bool
 terms_within sig f ts ids = list_all (λ j. has_small_sorts sig (term_under f (term_at ts j.0))) ids
 
+abbrev pub sents_within : Signature → (SVar → Sort) → List Sent → List SentId → Bool
+sents_within sig f ss ids = list_all (λ j. sent_has_small_sorts sig (sent_under f (sent_at ss j.0))) ids
+
 pub within-listed : (sig : Signature) (f : SVar → Sort) (ts : List Term) (ids : List TermId) → have_small_sorts sig (terms_under f (listed (map (λ j. term_at ts j.0) ids))) ≡ terms_within sig f ts ids
 within-listed sig f ts [] = refl
 within-listed sig f ts (i ∷ ids) = ap (λ b. has_small_sorts sig (term_under f (term_at ts i.0)) && b) (within-listed sig f ts ids)
 
-pub all-map : {A B : Type 0} (p : B → Bool) (f : A → B) (xs : List A) → list_all p (map f xs) ≡ list_all (λ x. p (f x)) xs
-all-map p f [] = refl
-all-map p f (x ∷ xs) = ap (λ b. p (f x) && b) (all-map p f xs)
+-- one more, as at a step of a loop, and the last of them
+pub within-next : {A : Type 0} (p : A → Bool) (xs : List A) (i : ℕ) (d : A) → i < length xs → list_all p (take i xs) ≡ true → p (get_or xs i d) ≡ true → list_all p (take (i + 1) xs) ≡ true
+within-next p xs i d h e f = list_all_more p xs i d h ∙ rw (e, f) refl
 
-and-more : (a b : Bool) → a ≡ true → b ≡ true → (a && b) ≡ true
-and-more a b p q = rw (p, q) refl
-
-and-first : (a b : Bool) → (a && b) ≡ true → a ≡ true
-and-first true b e = refl
-and-first false b e = e
-
-and-rest : (a b : Bool) → (a && b) ≡ true → b ≡ true
-and-rest true b e = e
-and-rest false b e = absurd (cc)
-
-and-false : (a b : Bool) → b ≡ false → (a && b) ≡ false
-and-false true b e = e
-and-false false b e = refl
-
--- one more
-pub within-next : (p : TermId → Bool) (xs : List TermId) (i : ℕ) (d : TermId) → i < length xs → list_all p (take i xs) ≡ true → p (get_or xs i d) ≡ true → list_all p (take (i + 1) xs) ≡ true
-within-next p [] i d h e f = absurd (omega arith)
-within-next p (x ∷ xs) zero d h e f = and-more (p x) true f refl
-within-next p (x ∷ xs) (suc i) d h e f =
-    let s : suc i + 1 ≡ suc (i + 1) = omega arith in
-    rw s (and-more (p x) (list_all p (take (i + 1) xs)) (and-first (p x) (list_all p (take i xs)) e) (within-next p xs i d (omega arith) (and-rest (p x) (list_all p (take i xs)) e) f))
-
--- one that isn't
-pub within-fails : (p : TermId → Bool) (xs : List TermId) (i : ℕ) (d : TermId) → i < length xs → p (get_or xs i d) ≡ false → list_all p xs ≡ false
-within-fails p [] i d h f = absurd (omega arith)
-within-fails p (x ∷ xs) zero d h f = rw f refl
-within-fails p (x ∷ xs) (suc i) d h f = and-false (p x) (list_all p xs) (within-fails p xs i d (omega arith) f)
+pub within-all : {A : Type 0} (p : A → Bool) (xs : List A) (i : ℕ) → length xs ≤ i → list_all p (take i xs) ≡ true → list_all p xs ≡ true
+within-all p xs i h e = ap (list_all p) (sym (take_all i xs h)) ∙ e
 
 small-first : (sig : Signature) (t : Term) → is_small (sort_in sig t) ≡ false → has_small_sorts sig t ≡ false
 small-first sig (var v) e = e
@@ -83,7 +62,7 @@ module _ (sig : Signature) (s : Trees) (f : SVar → Sort) (sorted : IsSortedIn 
           let p = rw is at tree in
           let o : is_small (sort_in sig (term_under f (app g sorts (listed (map (λ j. term_at s.terms j.0) ids))))) ≡ true = (λ i. is_small (sort_in sig (term_under f (p i)))) ∙ own_true in
           (λ i. has_small_sorts sig (term_under f (sym p i)))
-          ∙ (λ i. o i && (all-map is_small (apply_to f) sorts i && (within-listed sig f s.terms ids ∙ ap (terms_within sig f s.terms) (sym same)) i))
+          ∙ (λ i. o i && (list_all-map is_small (apply_to f) sorts i && (within-listed sig f s.terms ids ∙ ap (terms_within sig f s.terms) (sym same)) i))
 
       module _ (c : Bool) (these : List Sort) (d : c ≡ list_all (λ r. is_small (apply_to f r)) these) (as_they_are : these ≡ sorts) where
         sorts_are : list_all (λ r. is_small (apply_to f r)) sorts ≡ c
@@ -94,6 +73,3 @@ module _ (sig : Signature) (s : Trees) (f : SVar → Sort) (sorted : IsSortedIn 
 
         pub within-parts : (x : Bool) → c ≡ true → terms_within sig f s.terms xs ≡ x → x ≡ has_small_sorts sig (term_under f (term_at s.terms t))
         within-parts x z k = sym (parts ∙ ap (λ b. b && terms_within sig f s.terms xs) (sorts_are ∙ z) ∙ k)
-
-pub within-all : (sig : Signature) (f : SVar → Sort) (ts : List Term) (xs : List TermId) (i : ℕ) → length xs ≤ i → terms_within sig f ts (take i xs) ≡ true → terms_within sig f ts xs ≡ true
-within-all sig f ts xs i h e = ap (terms_within sig f ts) (sym (take_all i xs h)) ∙ e

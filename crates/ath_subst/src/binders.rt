@@ -14,11 +14,12 @@ ghost use Rattle.ath_trees.specs.Under.{var_under};
 ghost use Rattle.ath_trees.specs.Variables.{same_var};
 ghost use Rattle.ath_trees.specs.WellSorted.{is_valid_sort};
 
+use crate::meeting::is_met_past;
 use crate::occurrences::{add_copies, add_every_var, renewed};
 use crate::renaming::renamed_sent;
 use ath_sorts::SortSubst;
-use ath_sorts::sorts::{copied, is_same};
-use ath_terms::variables::{copied_var, is_namesake, is_same_var};
+use ath_sorts::sorts::copied;
+use ath_terms::variables::copied_var;
 use ath_terms::{Store, TermNode};
 use ath_trees::{SentId, TermId, Var};
 use std::alloc::{AllocError, Global};
@@ -28,46 +29,6 @@ use std::alloc::{AllocError, Global};
 pub struct Binder {
     pub variable: Var,
     pub body: SentId,
-}
-
-/// The variable with its sort under the substitution.
-pub fn var_under(alloc: Global, subst: &SortSubst, v: &Var) -> Result<Var, AllocError>
-    ensures { IfOk result (λ w. w ≡ var_under (image subst.now) v.now) }
-{
-    let sort = subst.applied(alloc, &v.sort)?;
-    Ok(Var {
-        name: v.name,
-        index: v.index,
-        sort,
-    })
-}
-
-/// Whether another variable comes to the name, the index and the sort of this one.
-fn meets(alloc: Global, subst: &SortSubst, v: &Var, w: &Var) -> Result<bool, AllocError>
-    ensures { IfOk result (λ b. b ≡ (not (same_var v.now w.now) && same_var (var_under (image subst.now) v.now) (var_under (image subst.now) w.now))) }
-{
-    if !is_namesake(v, w) {
-        return Ok(false);
-    }
-    if is_same_var(v, w) {
-        return Ok(false);
-    }
-    let own = var_under(alloc, subst, v)?;
-    let other = var_under(alloc, subst, w)?;
-    let same = is_same_var(&own, &other);
-    Ok(same)
-}
-
-fn is_met(alloc: Global, subst: &SortSubst, v: &Var, found: &[Var]) -> Result<bool, AllocError>
-    ensures { IfOk result (λ b. b ≡ is_met (image subst.now) v.now found.now) }
-{
-    for w in found {
-        let met = meets(alloc, subst, v, w)?;
-        if met {
-            return Ok(true);
-        }
-    }
-    Ok(false)
 }
 
 /// The term of a variable.
@@ -122,12 +83,11 @@ pub fn free_binder(
     ensures body { IfOk result (λ b. IsSent store.new b.body.0 (body_at (image subst.now) v (sent_at store.old.sents body.0))) }
     ensures sorted { (sig : Signature) → IsSortedIn sig store.old → is_valid_sort sig v.sort ≡ true → IsSortedIn sig store.new }
 {
-    let found = store.free_vars(alloc, body)?;
-    let met = is_met(alloc, subst, &v, found.as_slice())?;
+    let none = Vec::new(alloc);
+    let met = is_met_past(alloc, store, subst, &v, none.as_slice(), body)?;
     if !met {
         return Ok(Binder { variable: v, body });
     }
-    let none = Vec::new(alloc);
     let renamed = renamed_binder(alloc, store, none.as_slice(), &v, body)?;
     Ok(renamed)
 }

@@ -5,7 +5,7 @@ ghost use Rattle.ath_sorts.specs.Signature.{Signature};
 ghost use Rattle.ath_subst.specs.Captures.{is_left, binder_for, body_for};
 ghost use Rattle.ath_terms.specs.SortsIn.{IsSortedIn};
 ghost use Rattle.ath_terms.specs.Trees.{term_at, sent_at, Grows, IsSent};
-ghost use Rattle.ath_trees.specs.Occurrences.{is_among};
+ghost use Rattle.ath_trees.specs.Occurrences.{is_among, is_named};
 ghost use Rattle.ath_trees.specs.Variables.{term_vars, free_vars};
 ghost use Rattle.ath_trees.specs.WellSorted.{is_valid_sort};
 
@@ -17,21 +17,37 @@ use ath_trees::{SentId, TermId, Var};
 use std::alloc::{AllocError, Global};
 
 /// Whether it is seen at once that no variable of the term has this name and index.
-pub fn lacks(store: &Store, t: TermId, x: &Var) -> bool
+pub fn lacks_name(store: &Store, t: TermId, x: &Var) -> bool
     requires { t.0 < length store.now.terms }
-    ensures { IsTrue result → is_among x.now (term_vars (term_at store.now.terms t.0)) ≡ false }
+    ensures { IsTrue result → is_named x.now (term_vars (term_at store.now.terms t.0)) ≡ false }
 {
     let marks = store.marks(t);
     !marks.groups.may_have(x)
 }
 
 /// Whether it is seen at once that no free variable of the sentence has this name and index.
+pub fn sent_lacks_name(store: &Store, p: SentId, x: &Var) -> bool
+    requires { p.0 < length store.now.sents }
+    ensures { IsTrue result → is_named x.now (free_vars (sent_at store.now.sents p.0)) ≡ false }
+{
+    let marks = store.sent_marks(p);
+    !marks.groups.may_have(x)
+}
+
+/// Whether it is seen at once that the variable isn't in the term.
+pub fn lacks(store: &Store, t: TermId, x: &Var) -> bool
+    requires { t.0 < length store.now.terms }
+    ensures { IsTrue result → is_among x.now (term_vars (term_at store.now.terms t.0)) ≡ false }
+{
+    lacks_name(store, t, x)
+}
+
+/// Whether it is seen at once that the variable isn't free in the sentence.
 pub fn sent_lacks(store: &Store, p: SentId, x: &Var) -> bool
     requires { p.0 < length store.now.sents }
     ensures { IsTrue result → is_among x.now (free_vars (sent_at store.now.sents p.0)) ≡ false }
 {
-    let marks = store.sent_marks(p);
-    !marks.groups.may_have(x)
+    sent_lacks_name(store, p, x)
 }
 
 /// Whether a variable is free in a sentence.

@@ -11,9 +11,10 @@ ghost use Rattle.ath_trees.specs.Under.{sent_under};
 ghost use Rattle.ath_trees.specs.SortUnder.{sent_at_sorts};
 ghost use Rattle.ath_trees.specs.WellSorted.{is_valid_sort};
 
-use crate::binders::{free_binder, var_under};
+use crate::binders::free_binder;
 use crate::keeping::{keeps_sent, keeps_small_sent, leaves_sent};
 use crate::kept::keep_sent;
+use crate::meeting::var_under;
 use crate::terms::{are_both_within, is_term_within, term_under};
 use ath_sorts::SortSubst;
 use ath_terms::plain::copied_node;

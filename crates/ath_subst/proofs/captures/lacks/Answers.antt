@@ -1,5 +1,7 @@
-use Rattle.ath_subst.proofs.CaptureLaws.{term-lacks}
+use Rattle.ath_trees.specs.Variables.{term_vars}
+use Rattle.ath_trees.proofs.Occurring.{unnamed}
+use Rattle.ath_terms.specs.Trees.{term_at}
 use Rattle.ath_subst.proofs.captures.lacks.Goals as goal
 
 pub returns : goal.returns
-returns c = λ e. term-lacks c.args.store.now c.marks-marks.result c.args.x.now c.may_have.result c.may_have.ensures e c.args.t.0 c.marks-marks.ensures
+returns c = λ e. unnamed c.args.x.now (term_vars (term_at c.args.store.now.terms c.args.t.0)) (c.lacks_name.ensures e)

@@ -1,5 +1,7 @@
-use Rattle.ath_subst.proofs.CaptureLaws.{sent-lacks}
+use Rattle.ath_trees.specs.Variables.{free_vars}
+use Rattle.ath_trees.proofs.Occurring.{unnamed}
+use Rattle.ath_terms.specs.Trees.{sent_at}
 use Rattle.ath_subst.proofs.captures.sent_lacks.Goals as goal
 
 pub returns : goal.returns
-returns c = λ e. sent-lacks c.args.store.now c.sent_marks-marks.result c.args.x.now c.may_have.result c.may_have.ensures e c.args.p.0 c.sent_marks-marks.ensures
+returns c = λ e. unnamed c.args.x.now (free_vars (sent_at c.args.store.now.sents c.args.p.0)) (c.sent_lacks_name.ensures e)

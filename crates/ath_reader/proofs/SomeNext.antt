@@ -19,7 +19,7 @@ use Rattle.ath_reader.specs.declared.reader.SyntaxKind.{SyntaxKind}
 use Rattle.ath_reader.specs.declared.reader.SyntaxKind.TheVariants.{Lex, Unexpected, Unclosed, KindMix, TooDeep}
 use Rattle.ath_reader.specs.Ahead.{Ahead, a_token, the_end, a_fault, ahead, Reads, reads_none, reads_more, names_past}
 use Rattle.ath_reader.specs.Reading.{Reading, Shallow, Front, IsWhole, IsCut, place, Fails}
-use Rattle.ath_reader.specs.Next.{Next, whole, ended, stopped, IsNext}
+use Rattle.ath_reader.specs.Next.{Upcoming, whole, ended, stopped, IsNext}
 use Rattle.ath_reader.specs.Laws.{SomeNext}
 use Rattle.ath_reader.proofs.KnownTokens.{reads_rise}
 use Rattle.ath_reader.specs.Steps.{IsNotOver}
@@ -51,7 +51,7 @@ module _ (r : Reading) (names : List (List ℕ)) (from : ℕ) where
     shallow : Shallow ts
 
   abbrev Something : Type 0
-  Something = (n : Next) × IsNext r names from n
+  Something = (n : Upcoming) × IsNext r names from n
 
   module _ (ts : List Placed) (known : List (List ℕ)) (to : ℕ) (is : List Item) (vs : List Value) (b : Begun ts known to is vs) where
     front : (next : Ahead) → ahead r.file r.text known to ≡ next → Front r names from

@@ -5,13 +5,13 @@ use Rattle.ath_reader.specs.declared.reader.SyntaxError.{SyntaxError}
 use Rattle.ath_reader.specs.Ahead.{the_end, ahead, names_past}
 use Rattle.ath_reader.specs.Reading.{Progress, reached, refused, Reading, Front, IsWhole, Refuses}
 
-pub data Next : Type 0 where
+pub data Upcoming : Type 0 where
   -- a directive, the byte behind its tokens, and the names after it
-  whole : DirectiveTree → ℕ → List (List ℕ) → Next
+  whole : DirectiveTree → ℕ → List (List ℕ) → Upcoming
   -- the end of the text
-  ended : Next
+  ended : Upcoming
   -- a refusal, and the names after it
-  stopped : SyntaxError → List (List ℕ) → Next
+  stopped : SyntaxError → List (List ℕ) → Upcoming
 
 -- from a byte on comes this directive, which ends before another byte, and these are the names after it: those of its tokens,
 -- and that of the token behind it
@@ -22,7 +22,7 @@ pub record Spelled (r : Reading) (names : List (List ℕ)) (from : ℕ) (d : Dir
   pub after : names' ≡ names_past front.next front.known
 
 -- this is next from a byte on, where these names are known
-abbrev pub IsNext : Reading → List (List ℕ) → ℕ → Next → Type 0
+abbrev pub IsNext : Reading → List (List ℕ) → ℕ → Upcoming → Type 0
 IsNext r names from (whole d to names') = Spelled r names from d to names'
 IsNext r names from ended = ahead r.file r.text names from ≡ the_end
 IsNext r names from (stopped e names') = Refuses r names from e names'

@@ -30,7 +30,7 @@ pub(crate) struct Machine {
 
 /// What a symbol or a token does: nothing, since all was read before; it is taken; or it is refused. The bool says whether
 /// the kinds of phrases fit.
-#[derive(Clone, Copy, Debug)]
+#[derive(Clone, Copy)]
 pub(crate) enum Step {
     Over(bool),
     Took(bool),

@@ -25,7 +25,8 @@ use Rattle.ath_session.specs.declared.status.Status.{Status}
 use Rattle.ath_session.specs.declared.status.Status.TheVariants.{Clean, Errors, Usage, Fuel, SourceFault, SinkFault, Memory}
 use Rattle.ath_session.specs.declared.desk.Flow.{Flow}
 use Rattle.ath_session.specs.declared.desk.Flow.TheVariants.{On, End}
-use Rattle.ath_session.specs.declared.limits.TheConstants.{MOST_ASKED, MOST_BYTES}
+use Rattle.ath_reader.specs.declared.limits.TheConstants.{MOST_BYTES}
+use Rattle.ath_session.specs.declared.limits.TheConstants.{MOST_ASKED}
 use Rattle.ath_session.specs.Said.{line_said}
 use Rattle.ath_session.specs.Run.{Item, asks, tells, Configuration, Move, goes, halts, items_of, Halt, out_of_fuel, said, reading_of, fetched, asking}
 use Rattle.ath_session.specs.Report.{names_in, lines_in, is_error, has_error}

@@ -16,7 +16,8 @@ use Rattle.ath_eval.specs.Outcomes.{refusal}
 use Rattle.ath_session.specs.declared.status.Status.TheVariants.{Usage}
 use Rattle.ath_session.specs.State.{with_names}
 use Rattle.ath_session.specs.Directives.{Continuation, goes_on, loads, ends, effect}
-use Rattle.ath_session.specs.declared.limits.TheConstants.{MOST_BYTES, MOST_ASKED, MOST_LOADS}
+use Rattle.ath_reader.specs.declared.limits.TheConstants.{MOST_BYTES}
+use Rattle.ath_session.specs.declared.limits.TheConstants.{MOST_ASKED, MOST_LOADS}
 use Rattle.ath_session.specs.Run.{Item, asks, said, Configuration, Halt, Move, goes, halts, reading_of, opened, fetched, asking, beginning_of, next_file, following, place_of, turned, IsTurn, IsMove, Runs, at_start, one_more}
 use Rattle.ath_session.specs.Report.{Report, status_of, start, IsLogOf, IsReportOf}
 use Rattle.ath_session.specs.Steps.{IsGoing, AreGoing, Opens, weight}
@@ -127,7 +128,7 @@ module _ (texts : Texts) (c d : Configuration) (items : List Item) (r : Reading)
         falls = subst (λ (w : ℕ). weight d < w) weight_same (text_falls (record c { stack = rs }) d r from at to on inside few mid e f o.opens);
       }
 
-  text_less : (n : reading.Next) → reading.IsNext r c.state.names from n → turned texts c r rs n ≡ goes items d → IsLess c d
+  text_less : (n : reading.Upcoming) → reading.IsNext r c.state.names from n → turned texts c r rs n ≡ goes items d → IsLess c d
   text_less (reading.whole t to known) h e =
       let a = advances r c.state.names from t to known h in
       let f = effect (with_names known c.state) t in

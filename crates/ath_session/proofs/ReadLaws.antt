@@ -16,7 +16,7 @@ use Rattle.ath_reader.specs.declared.reader.SyntaxKind.TheVariants.{Memory as No
 use Rattle.ath_reader.specs.Ahead.{Ahead, a_token, the_end, a_fault}
 use Rattle.ath_reader.specs.Reading.{Reading, Progress, reached, Fails}
 use Rattle.ath_reader.specs.Answering.{Wants, Answers}
-use Rattle.ath_reader.specs.Next.{Next, whole, ended, stopped, IsNext, byte_reached}
+use Rattle.ath_reader.specs.Next.{Upcoming, whole, ended, stopped, IsNext, byte_reached}
 use Rattle.ath_reader.specs.Laws.{OneNext}
 use Rattle.ath_grammar.specs.Tokens.{Placed}
 use Rattle.ath_print.specs.Events.{refused}
@@ -52,7 +52,7 @@ around rs r = let e = length-append rs (r ∷ []) in let f = length-reverse rs i
 
 module _ (texts : List (List ℕ × List ℕ)) (c : Configuration) (r : Reading) (from : ℕ) (at : r.progress ≡ reached from) where
   module _ (one : OneNext) (m : Move) (moves : IsMove texts (record c { stack = r ∷ c.stack }) m) where
-    move_is : (n : Next) → IsNext r c.state.names from n → m ≡ turned texts (record c { stack = r ∷ c.stack }) r c.stack n
+    move_is : (n : Upcoming) → IsNext r c.state.names from n → m ≡ turned texts (record c { stack = r ∷ c.stack }) r c.stack n
     move_is n h = moves.2 ∙ ap (turned texts (record c { stack = r ∷ c.stack }) r c.stack) (one r c.state.names from moves.0 n (subst (λ (b : ℕ). IsNext r c.state.names b moves.0) (ap byte_reached at) moves.1) h)
 
     -- at the end of a text

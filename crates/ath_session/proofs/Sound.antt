@@ -44,7 +44,8 @@ use Rattle.ath_session.specs.State.{State, first_state, context, environment, le
 use Rattle.ath_session.specs.Unbuilt.{unbuilt_in}
 use Rattle.ath_session.specs.Directives.{Continuation, goes_on, loads, ends, Effect, telling, declaring, to_assert, asserting, asserting_sentence, asserting_built, ending, showing, refusing, loading, done, unless_unbuilt, effect}
 use Rattle.ath_session.specs.Run.{Item, asks, tells, Configuration, Halt, Move, goes, halts, reading_of, opened, fetched, asking, beginning_of, next_file, tell_all, following, place_of, turned, IsTurn, Runs, at_start, one_more, said}
-use Rattle.ath_session.specs.declared.limits.TheConstants.{MOST_BYTES, MOST_ASKED, MOST_LOADS}
+use Rattle.ath_reader.specs.declared.limits.TheConstants.{MOST_BYTES}
+use Rattle.ath_session.specs.declared.limits.TheConstants.{MOST_ASKED, MOST_LOADS}
 use Rattle.ath_session.specs.Report.{Report, said_in, start, IsLogOf, IsReportOf}
 use Rattle.ath_session.specs.Sound.{IsSoundFor}
 use Rattle.ath_session.specs.Theorems.{asserted_after, IsJustified, AreJustified}
@@ -345,12 +346,12 @@ following-goes texts ps c outer at es (loads name) d = go (nat_lt outer MOST_LOA
     go false = (tt, d)
 
 -- what is next, where it is a directive, lists parameters that differ
-abbrev NextDiffers : reading.Next → Type 0
+abbrev NextDiffers : reading.Upcoming → Type 0
 NextDiffers (reading.whole d to known) = DirectiveDiffers d
 NextDiffers reading.ended = Unit {0}
 NextDiffers (reading.stopped e known) = Unit {0}
 
-next-differs : (r : Reading) (names : List (List ℕ)) (from : ℕ) (n : reading.Next) → reading.IsNext r names from n → NextDiffers n
+next-differs : (r : Reading) (names : List (List ℕ)) (from : ℕ) (n : reading.Upcoming) → reading.IsNext r names from n → NextDiffers n
 next-differs r names from (reading.whole d to known) h = whole_differs h.front.tokens h.front.next d h.whole
 next-differs r names from reading.ended h = tt
 next-differs r names from (reading.stopped e known) h = tt
@@ -373,7 +374,7 @@ first-sound : (fuel : ℕ) → IsSoundFor [] (first_state fuel)
 first-sound fuel = record { valid = initial_valid; has_boolean = refl; base = λ p i. absurd i }
 
 module _ (follow : ConclusionsFollow) (values : ValuesAreSorted) where
-  turned-goes : (texts : Texts) (ps : List Sent) (c : Configuration) → IsSoundFor ps c.state → (r : Reading) (rs : List Reading) (n : reading.Next) → NextDiffers n → GoesOn ps (turned texts c r rs n)
+  turned-goes : (texts : Texts) (ps : List Sent) (c : Configuration) → IsSoundFor ps c.state → (r : Reading) (rs : List Reading) (n : reading.Upcoming) → NextDiffers n → GoesOn ps (turned texts c r rs n)
   turned-goes texts ps c sound r rs (reading.whole d to known) differ =
       let e = effect (with_names known c.state) d in
       following-goes texts ps (record c { stack = record r { progress = reached to } ∷ rs; state = e.state }) (length rs) (place_of d) e.events e.next (effect-does follow values ps (with_names known c.state) (record { valid = sound.valid; has_boolean = sound.has_boolean; base = sound.base }) d differ)

@@ -4,7 +4,7 @@ use Rattle.std.proofs.lemmas.List.{length-reverse}
 use Rattle.std.proofs.lemmas.List.Elements.{All-cons, All-same}
 use Rattle.std.proofs.Math.Nat.{pow-succ', one-le-pow, mul-le-mul_right, suc-mul}
 use Rattle.ath_reader.specs.Reading.{Reading, reached}
-use Rattle.ath_session.specs.declared.limits.TheConstants.{MOST_BYTES}
+use Rattle.ath_reader.specs.declared.limits.TheConstants.{MOST_BYTES}
 use Rattle.ath_session.specs.Run.{Configuration, reading_of}
 use Rattle.ath_session.specs.Steps.{IsGoing, AreGoing, Opens, whole_text, bytes_left, open_weight, weight}
 

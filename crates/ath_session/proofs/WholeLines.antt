@@ -26,7 +26,8 @@ use Rattle.ath_syntax.specs.Places.{place}
 use Rattle.ath_session.specs.State.{State, context, environment, left, with_left, with_names}
 use Rattle.ath_session.specs.Unbuilt.{unbuilt_in}
 use Rattle.ath_session.specs.Directives.{Continuation, goes_on, loads, ends, Effect, declaring, to_assert, asserting, asserting_sentence, asserting_built, showing, done, unless_unbuilt, effect}
-use Rattle.ath_session.specs.declared.limits.TheConstants.{MOST_BYTES, MOST_ASKED, MOST_LOADS}
+use Rattle.ath_reader.specs.declared.limits.TheConstants.{MOST_BYTES}
+use Rattle.ath_session.specs.declared.limits.TheConstants.{MOST_ASKED, MOST_LOADS}
 use Rattle.ath_session.specs.Run.{Item, asks, tells, Configuration, Halt, Move, goes, halts, reading_of, opened, fetched, asking, beginning_of, next_file, tell_all, following, place_of, turned, IsTurn, Runs, at_start, one_more, said}
 use Rattle.ath_session.specs.Report.{said_in, start, IsLogOf}
 use Rattle.ath_session.specs.Believed.{IsLine, AreNamed}
@@ -167,7 +168,7 @@ front_comes first names r from f after h e = subst (Comes first) (sym e) (past_c
 both_come : (first names : List (List ℕ)) → ((from : List (List ℕ)) → Comes from first → Comes from names) → Comes [] first → Grows first names × Comes [] names
 both_come first names on k = ((on first (record { grows = Grows-refl first; distinct = k.distinct; plain = k.plain })).grows, on [] k)
 
-turned_whole : (texts : Texts) (c : Configuration) → Comes [] c.state.names → (r : Reading) (rs : List Reading) (from : ℕ) (n : reading.Next) → reading.IsNext r c.state.names from n → GoesWhole c.state.names (turned texts c r rs n)
+turned_whole : (texts : Texts) (c : Configuration) → Comes [] c.state.names → (r : Reading) (rs : List Reading) (from : ℕ) (n : reading.Upcoming) → reading.IsNext r c.state.names from n → GoesWhole c.state.names (turned texts c r rs n)
 turned_whole texts c k r rs from (reading.whole d to known) next =
     let e = effect (with_names known c.state) d in
     let both = both_come c.state.names known (λ first h. front_comes first c.state.names r from next.front known h next.after) k in

@@ -13,7 +13,8 @@ use Rattle.ath_print.specs.declared.fault.FaultKind.{FaultKind}
 use Rattle.ath_print.specs.declared.fault.FaultKind.TheVariants.{BadUtf8, BadChar, OpenString, NameTooLong, Unexpected, Unclosed, KindMix, TooDeep, FileTooLong, TooManyLoads, NotBuilt}
 use Rattle.ath_print.specs.Events as events
 use Rattle.ath_eval.specs.Outcomes.{refusal}
-use Rattle.ath_session.specs.declared.limits.TheConstants.{MOST_BYTES, MOST_ASKED, MOST_LOADS}
+use Rattle.ath_reader.specs.declared.limits.TheConstants.{MOST_BYTES}
+use Rattle.ath_session.specs.declared.limits.TheConstants.{MOST_ASKED, MOST_LOADS}
 use Rattle.ath_session.specs.Said.{Said}
 use Rattle.ath_session.specs.State.{State, with_names}
 use Rattle.ath_session.specs.Directives.{Continuation, goes_on, loads, ends, Effect, effect}
@@ -125,7 +126,7 @@ abbrev pub place_of : DirectiveTree → Pos
 place_of (directive_at at s) = at
 
 -- the innermost text is read on: a directive is run, a syntax error is told and ends the text, and so does its end
-abbrev pub turned : List (List ℕ × List ℕ) → Configuration → Reading → List Reading → reading.Next → Move
+abbrev pub turned : List (List ℕ × List ℕ) → Configuration → Reading → List Reading → reading.Upcoming → Move
 turned texts c r rs (reading.whole d to known) =
     taking texts (record c { stack = record r { progress = reached to } ∷ rs }) (length rs) (place_of d) (effect (with_names known c.state) d)
 turned texts c r rs reading.ended = goes [] (record c { stack = rs })
@@ -135,7 +136,7 @@ turned texts c r rs (reading.stopped e known) =
 -- the next step, by whether a text is open
 abbrev pub IsTurn : List (List ℕ × List ℕ) → Configuration → List Reading → Move → Type 0
 IsTurn texts c [] m = m ≡ next_file texts c c.waiting
-IsTurn texts c (r ∷ rs) m = (n : reading.Next) × reading.IsNext r c.state.names (reading.byte_reached r.progress) n × (m ≡ turned texts c r rs n)
+IsTurn texts c (r ∷ rs) m = (n : reading.Upcoming) × reading.IsNext r c.state.names (reading.byte_reached r.progress) n × (m ≡ turned texts c r rs n)
 
 -- the next step of a run over these texts
 abbrev pub IsMove : List (List ℕ × List ℕ) → Configuration → Move → Type 0

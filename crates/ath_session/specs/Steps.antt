@@ -13,7 +13,8 @@ use Rattle.ath_session.specs.declared.status.Status.TheVariants.{Clean, Errors, 
 use Rattle.ath_session.specs.declared.desk.Desk.{Desk}
 use Rattle.ath_session.specs.declared.desk.Flow.{Flow}
 use Rattle.ath_session.specs.declared.desk.Flow.TheVariants.{On, End}
-use Rattle.ath_session.specs.declared.limits.TheConstants.{MOST_BYTES, MOST_OPEN}
+use Rattle.ath_reader.specs.declared.limits.TheConstants.{MOST_BYTES}
+use Rattle.ath_session.specs.declared.limits.TheConstants.{MOST_OPEN}
 use Rattle.ath_session.specs.Said.{Said, line_said}
 use Rattle.ath_session.specs.Run.{Item, asks, tells, Configuration, reading_of, Move, goes, halts, items_of, IsMove, all_run, out_of_fuel, taking}
 use Rattle.ath_session.specs.Report.{has_error}

@@ -16,12 +16,12 @@ ghost use Rattle.ath_session.specs.Run.{saying, saying_all, asking, next_file, w
 ghost use Rattle.ath_session.specs.Steps.{configuration_of, outside, DeskDid, DidOver, DidNext, DidDirective, AreGoing, Opens, IsOpened, weight};
 ghost use Rattle.ath_session.specs.Session.{state_of, ParamsDiffer};
 
-use crate::limits::{MOST_ASKED, MOST_BYTES, MOST_LOADS, MOST_OPEN};
+use crate::limits::{MOST_ASKED, MOST_LOADS, MOST_OPEN};
 use crate::session::{Next, Session};
 use crate::status::Status;
 use ath_io::{FetchError, Shelf, Sink};
 use ath_print::{Event, Fault, FaultKind, line};
-use ath_reader::{Reader, SyntaxError, SyntaxKind};
+use ath_reader::{MOST_BYTES, Reader, SyntaxError, SyntaxKind};
 use ath_syntax::{Directive, Pos};
 use ath_tokens::LexKind;
 use std::alloc::{AllocError, Global};

@@ -1,8 +1,5 @@
 // The limits of a run.
 
-/// The most bytes of a file.
-pub const MOST_BYTES: usize = 4_194_304;
-
 /// The most bytes that a shelf is asked for: one more than a file has, so that a longer one shows.
 pub const MOST_ASKED: usize = 4_194_305;
 

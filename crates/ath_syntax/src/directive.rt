@@ -29,7 +29,7 @@ pub enum What {
 }
 
 /// A directive and its place.
-#[derive(Debug, Drop)]
+#[derive(Drop)]
 pub struct Directive {
     pub pos: Pos,
     pub what: What,

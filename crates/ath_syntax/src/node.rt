@@ -50,7 +50,7 @@ pub enum Form {
 }
 
 /// A phrase: its place, whether it is a deduction (else it is an expression), and its form.
-#[derive(Debug, Drop)]
+#[derive(Drop)]
 pub struct Node {
     pub pos: Pos,
     pub deduction: bool,
@@ -58,7 +58,7 @@ pub struct Node {
 }
 
 /// A pattern. The first name of `Some` is the word `some-var`, `some-term`, `some-sent` or `some-list`.
-#[derive(Debug, Drop)]
+#[derive(Drop)]
 pub enum PatNode {
     Any,
     Name(Sym),

@@ -7,7 +7,7 @@ ghost use Rattle.ath_tokens.specs.Mark.{IsMark};
 use ath_syntax::Pos;
 
 /// A byte of a text, the number of line ends before it, and the byte at which its line begins.
-#[derive(Clone, Copy, Debug)]
+#[derive(Clone, Copy)]
 pub struct Mark {
     pub at: usize,
     pub lines: u64,

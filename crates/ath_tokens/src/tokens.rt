@@ -58,7 +58,7 @@ pub struct LexError {
 ///
 /// Contracts see the text, the number of its file, the byte from which the next token is looked
 /// for, and the error that is given from then on.
-#[derive(Debug, Drop)]
+#[derive(Drop)]
 pub struct Tokens {
     text: Vec<u8>,
     file: usize,

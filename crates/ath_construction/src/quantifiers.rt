@@ -20,7 +20,7 @@ ghost use Rattle.ath_construction.specs.Answers.{IsSentBuilt};
 
 use crate::pairs::{add_variable_pairs, solve};
 use ath_sorts::{Sort, SortSubst};
-use ath_subst::binders::var_under;
+use ath_subst::meeting::var_under;
 use ath_subst::sentences::{is_sent_within, sent_at_sorts};
 use ath_terms::limits::check_limits;
 use ath_terms::variables::add_sent_vars;

@@ -72,10 +72,10 @@ fn past(
     ensures { IfOk result (λ r. r.items ≡ past (image subst.now) v.now bound.now u.now) }
 {
     let mut all = Vec::new(alloc);
-    add_copies(alloc, &mut all, bound)?;
+    add_copies(&mut all, bound)?;
     let met = meets(alloc, subst, v, u)?;
     if met {
-        let copy = copied_var(alloc, u)?;
+        let copy = copied_var(u)?;
         all.push(copy)?;
     }
     Ok(all)

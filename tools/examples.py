@@ -1,7 +1,7 @@
 #!/usr/bin/env python3
 """The examples of docs/ERRORS.md, which are a test of the gate as well.
 
-    tools/examples.py --table           writes the test, crates/ath_tests/src/examples.rt
+    tools/examples.py --table           writes the test, crates/ath_report_tests/src/examples.rt
     tools/examples.py --check           is the test that of the document? (status 1 where it isn't)
     tools/examples.py --run PROGRAM     runs each example by PROGRAM, and compares what it prints
 
@@ -16,7 +16,7 @@ import tempfile
 
 TOP = os.path.dirname(os.path.dirname(os.path.abspath(__file__)))
 DOCUMENT = os.path.join(TOP, "docs", "ERRORS.md")
-TABLE = os.path.join(TOP, "crates", "ath_tests", "src", "examples.rt")
+TABLE = os.path.join(TOP, "crates", "ath_report_tests", "src", "examples.rt")
 BLOCKS = re.compile(r"^### (.*?)$|^```athena\n(.*?)^```\n```report\n(.*?)^```$", re.M | re.S)
 REPEATED = re.compile(r"«(.*?) × (\d+)»")
 
@@ -111,7 +111,7 @@ def main():
         with open(TABLE, encoding="utf-8") as file:
             same = re.sub(r"[\s,]+", "", file.read()) == re.sub(r"[\s,]+", "", table())
         if not same:
-            print("crates/ath_tests/src/examples.rt: write it again by tools/examples.py --table")
+            print("crates/ath_report_tests/src/examples.rt: write it again by tools/examples.py --table")
         sys.exit(0 if same else 1)
     elif len(sys.argv) == 3 and sys.argv[1] == "--run":
         run(os.path.abspath(sys.argv[2]))

@@ -11,13 +11,7 @@ mod construction;
 #[cfg(test)]
 mod declarations;
 #[cfg(test)]
-mod examples;
-#[cfg(test)]
 mod lines;
-#[cfg(test)]
-mod quantifiers;
-#[cfg(test)]
-mod reports;
 #[cfg(test)]
 mod subst;
 #[cfg(test)]

@@ -3,3 +3,4 @@ pub mod Binders
 pub mod Captures
 pub mod Limited
 pub mod Given
+pub mod Same

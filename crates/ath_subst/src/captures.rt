@@ -5,7 +5,7 @@ ghost use Rattle.ath_sorts.specs.Signature.{Signature};
 ghost use Rattle.ath_subst.specs.Captures.{is_left, binder_for, body_for};
 ghost use Rattle.ath_terms.specs.SortsIn.{IsSortedIn};
 ghost use Rattle.ath_terms.specs.Trees.{term_at, sent_at, Grows, IsSent};
-ghost use Rattle.ath_trees.specs.Occurrences.{is_among};
+ghost use Rattle.ath_trees.specs.Occurrences.{is_among, is_named};
 ghost use Rattle.ath_trees.specs.Variables.{term_vars, free_vars};
 ghost use Rattle.ath_trees.specs.WellSorted.{is_valid_sort};
 
@@ -100,6 +100,7 @@ pub fn open_binder(
     ensures grows { Grows store.old store.new }
     ensures variable { IfOk result (λ b. b.variable ≡ binder_for (term_at store.old.terms by.0) v (sent_at store.old.sents body.0)) }
     ensures body { IfOk result (λ b. IsSent store.new b.body.0 (body_for (term_at store.old.terms by.0) v (sent_at store.old.sents body.0))) }
+    ensures same { is_named v (term_vars (term_at store.old.terms by.0)) ≡ false → IfOk result (λ b. (b.body ≡ body) × (store.new ≡ store.old)) }
     ensures sorted { (sig : Signature) → IsSortedIn sig store.old → is_valid_sort sig v.sort ≡ true → IsSortedIn sig store.new }
 {
     if !is_index_used(&v, v.index, used) {

@@ -7,6 +7,7 @@ pub mod counts;
 pub mod error;
 pub mod keeping;
 pub mod kept;
+pub mod nodes;
 pub mod occurrences;
 pub mod putting;
 pub mod renaming;

@@ -1,5 +1,5 @@
 -- Sorts, variables and terms in a line.
-use Rattle.std.proofs.Common.{◌≡◌, ◌↔◌, ℕ, ◌<◌, Bool, true, false, IsTrue, ◌==◌, List, [], ◌∷◌, ◌++◌, Option, Some, length, map, refl, sym, ◌∙◌, ap, codes, arith}
+use Rattle.std.proofs.Common.{◌≡◌, ℕ, ◌<◌, Bool, true, false, ◌==◌, List, [], ◌∷◌, ◌++◌, Option, Some, length, map, refl, sym, ◌∙◌, ap, codes, arith}
 use Rattle.std.specs.List.{list_any}
 use Rattle.std.proofs.lemmas.Grind.{common_steps}
 use Rattle.std.proofs.lemmas.List.{length-map}
@@ -11,8 +11,6 @@ use Rattle.ath_sorts.specs.declared.sorts.Sort.TheVariants.{rolls-Var, rolls-Con
 use Rattle.ath_sorts.specs.declared.sorts.Sort.TheFolds.{fold-roll-Sort}
 use Rattle.ath_sorts.specs.declared.signature.Symbol.{Symbol}
 use Rattle.ath_sorts.specs.Signature.{Signature}
-use Rattle.ath_sorts.specs.Order.{same_sort}
-use Rattle.ath_sorts.proofs.SameSorts.{same_sort-refl, same_sort-true}
 use Rattle.ath_trees.specs.declared.node.Var.{Var as Variable}
 use Rattle.ath_trees.specs.declared.node.TermId.{TermId}
 use Rattle.ath_trees.specs.SortsIn.{sort_in, result_sort}
@@ -28,7 +26,6 @@ use Rattle.ath_terms.specs.declared.node.SentNode.TheVariants.{Conn as ConnNode,
 use Rattle.ath_terms.specs.Nodes.{arity, conn_tree, term_tree, sent_tree, IsSentBelow}
 use Rattle.ath_trees.specs.Tree.{Term, var, app, listed, Sent}
 use Rattle.ath_terms.specs.Trees.{Trees, term_at, sort_at, sent_at}
-use Rattle.ath_trees.specs.Variables.{same_var}
 use Rattle.ath_trees.specs.WellSorted.{HasSort}
 use Rattle.ath_env.specs.LookUp.{text_of}
 use Rattle.ath_print.specs.Printers.{Printed, Printer, word, in_turn, spaced, item, after}
@@ -41,14 +38,6 @@ sort_var names v = ap (sort_printed names) (sym (rolls-Var v)) ∙ fold-roll-Sor
 
 pub sort_con : (names : List (List ℕ)) (c : Sym) (args : List Sort) → sort_printed names (Con c args) ≡ item (text_of names c) (map (sort_printed names) args)
 sort_con names c args = ap (sort_printed names) (sym (rolls-Con c args)) ∙ fold-roll-Sort Printer (sort_step names) (one.Con c args)
-
-pub same_from : (r : Bool) (a b : Sort) → (IsTrue r ↔ (a ≡ b)) → r ≡ same_sort a b
-same_from true a b h = sym (ap (same_sort a) (sym (h.0 refl)) ∙ same_sort-refl a)
-same_from false a b h = by (same_sort a b) refl
-  where
-    by : (q : Bool) → same_sort a b ≡ q → false ≡ q
-    by true e = h.1 (same_sort-true a b e)
-    by false e = refl
 
 -- ---- terms
 pub terms_map : (names : List (List ℕ)) (sig : Signature) (binders : List Variable) (ts : List Term) (ids : List TermId) → terms_printed names sig binders (listed (map (λ i. term_at ts i.0) ids)) ≡ map (λ (i : TermId). term_printed names sig binders (term_at ts i.0)) ids
@@ -67,12 +56,8 @@ has_in sig (app f sorts args) s (HasSort.app_has d found long valid have e) = e 
 pub kept_sort : (sig : Signature) (s : Trees) (t : ℕ) → IsSortedIn sig s → t < length s.terms → sort_at s.sorts t ≡ sort_in sig (term_at s.terms t)
 kept_sort sig s t h below = has_in sig (term_at s.terms t) (sort_at s.sorts t) (h.terms t below)
 
--- ---- variables
 same_numbers : (m n : ℕ) → m ≡ n → (m == n) ≡ true
 same_numbers m n e = grind (arith, common_steps)
-
-pub same_variable : (v w : Variable) (r : Bool) → v.name.0 ≡ w.name.0 → v.index ≡ w.index → (IsTrue r ↔ (v.sort ≡ w.sort)) → r ≡ same_var v w
-same_variable v w r n i h = rw (same_numbers v.name.0 w.name.0 n, same_numbers v.index w.index i) (same_from r v.sort w.sort h)
 
 -- ---- sentences
 pub conn_printed : (names : List (List ℕ)) (sig : Signature) (binders : List Variable) (c : Conn) (ss : List Sent) (ids : List SentId) → length ids ≡ arity c → sent_printed names sig binders (conn_tree c (map (λ i. sent_at ss i.0) ids)) ≡ item (conn_text c) (map (λ (i : SentId). sent_printed names sig binders (sent_at ss i.0)) ids)

@@ -13,20 +13,12 @@ use crate::draft::{Draft, put, put_number};
 use crate::sorts::put_sort;
 use ath_env::text_of;
 use ath_names::Names;
-use ath_sorts::sorts::{is_same, occurs_in};
+use ath_sorts::sorts::occurs_in;
 use ath_sorts::{SVar, Signature, Sort, Sym};
+use ath_terms::variables::is_same_var;
 use ath_terms::{Store, TermNode};
 use ath_trees::{TermId, Var};
 use std::alloc::{AllocError, Global};
-
-fn is_same_var(v: &Var, w: &Var) -> bool
-    ensures { result ≡ same_var v.now w.now }
-{
-    if v.name.0 != w.name.0 || v.index != w.index {
-        return false;
-    }
-    is_same(&v.sort, &w.sort)
-}
 
 fn is_bound(v: &Var, binders: &[&Var]) -> bool
     ensures { result ≡ list_any (same_var v.now) (map (λ b. b.now) binders.now) }

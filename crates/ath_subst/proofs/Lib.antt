@@ -10,3 +10,5 @@ pub mod WithinLaws
 pub mod SentWithin
 pub mod KeptLaws
 pub mod KeepingLaws
+pub mod SameLaws
+pub mod SameSents

@@ -1,6 +1,6 @@
 // Binders under a sort substitution: one that another free variable of its body comes to is renamed.
 
-ghost use Rattle.std.specs.Prelude.{◌≡◌, ◌<◌, ◌++◌, ◌&&◌, true, not, length, IfOk, OnErr};
+ghost use Rattle.std.specs.Prelude.{◌≡◌, ◌<◌, ◌++◌, ◌&&◌, true, false, not, length, IfOk, OnErr};
 ghost use Rattle.ath_sorts.specs.Signature.{Signature};
 ghost use Rattle.ath_sorts.specs.Sorts.{image};
 ghost use Rattle.ath_subst.specs.Binders.{binder_at, body_at};

@@ -1,6 +1,6 @@
 // Terms of a store under a sort substitution. Only what it changes has new nodes.
 
-ghost use Rattle.std.specs.Prelude.{◌≡◌, ◌<◌, ◌&&◌, true, length, map, IfOk};
+ghost use Rattle.std.specs.Prelude.{◌≡◌, ◌<◌, ◌&&◌, ◌↔◌, IsTrue, true, length, map, IfOk};
 ghost use Rattle.std.specs.List.{list_all};
 ghost use Rattle.ath_sorts.specs.Sorts.{is_small, image, apply_to};
 ghost use Rattle.ath_sorts.specs.Signature.{Signature};
@@ -108,6 +108,13 @@ fn node_under(alloc: Global, subst: &SortSubst, node: &TermNode) -> Result<TermN
     }
 }
 
+/// Whether two nodes are one, with the sorts that are kept with them.
+fn are_one(some: &TermNode, sort: &Sort, other: &TermNode, whole: &Sort) -> bool
+    ensures { IsTrue result ↔ ((some.now ≡ other.now) × (sort.now ≡ whole.now)) }
+{
+    is_same_term_node(some, other) && is_same(sort, whole)
+}
+
 /// The term under the substitution, part by part. A part that comes out as it was keeps its number.
 fn renewed_term(
     alloc: Global,
@@ -129,7 +136,7 @@ fn renewed_term(
     let from = store.term(t);
     let node = node_under(alloc, subst, from)?;
     let sort = subst.applied(alloc, store.sort_of(t))?;
-    let stays = is_same_term_node(from, &node) && is_same(store.sort_of(t), &sort);
+    let stays = are_one(from, store.sort_of(t), &node, &sort);
     match node {
         TermNode::Var(v) => {
             let term = keep_term(store, t, stays, TermNode::Var(v), sort, nodes, levels)?;

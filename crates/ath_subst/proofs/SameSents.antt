@@ -1,5 +1,5 @@
 -- Sentences that come out of a walk as they were: so do their parts.
-use Rattle.std.proofs.Common.{◌≡◌, ℕ, ◌&&◌, ◌||◌, Bool, true, false, not, List, [], ◌∷◌, length, map, refl, sym, ◌∙◌, ap, subst}
+use Rattle.std.proofs.Common.{◌≡◌, ℕ, ◌+◌, ◌<◌, ◌≤◌, ◌&&◌, ◌||◌, Bool, true, false, not, List, [], ◌∷◌, ◌++◌, length, map, take, get_or, refl, sym, ◌∙◌, ap, subst}
 use Rattle.ath_sorts.specs.declared.sorts.SVar.{SVar}
 use Rattle.ath_sorts.specs.declared.sorts.Sort.{Sort}
 use Rattle.ath_trees.specs.declared.node.Conn.{Conn}
@@ -25,7 +25,7 @@ use Rattle.ath_subst.specs.Binders.{binder_at, body_at}
 use Rattle.ath_subst.specs.Captures.{is_left, binder_for, body_for}
 use Rattle.ath_subst.proofs.BinderLaws.{met-binder, at_sorts-bound}
 use Rattle.ath_subst.proofs.CaptureLaws.{named-binder, unnamed-binder, subst-open}
-use Rattle.ath_subst.proofs.SameLaws.{Stay, maps-stay}
+use Rattle.ath_subst.proofs.SameLaws.{Stay, AreSame, same-next, same-end, maps-stay}
 use Rattle.ath_subst.proofs.SentLaws.{Maps, IsAtom, IsEquation, IsConn, IsBound, conn-map, map-count, through, renamed-bound}
 
 module _ (g : Sent → Sent) (h : Term → Term) (maps : Maps g h) (old : Trees) (p : ℕ) (left : g (sent_at old.sents p) ≡ sent_at old.sents p) where
@@ -47,6 +47,17 @@ module _ (g : Sent → Sent) (h : Term → Term) (maps : Maps g h) (old : Trees)
       let q : conn_tree c (map g ss) ≡ conn_tree c ss = sym (conn-map g h maps c ss n) ∙ ap g (sym is.tree) ∙ left ∙ is.tree in
       let r = (conns-same c c (map g ss) ss (map-count g ss ∙ n) n q).parts in
       rw same (maps-stay (λ (j : SentId). g (sent_at old.sents j.0)) (λ (j : SentId). sent_at old.sents j.0) ids d i (sym (through g old.sents ids) ∙ r))
+
+module _ (g : Sent → Sent) (h : Term → Term) (maps : Maps g h) (old : Trees) (p : ℕ) (c : Conn) (ids xs : List SentId) (is : IsConn old p c ids) (same : xs ≡ ids) where
+  pub conn-same-next : (s u : Trees) (parts : List SentId) (i : ℕ) (d part : SentId) → i < length xs → (Stay (λ j. g (sent_at old.sents j.0)) (λ j. sent_at old.sents j.0) xs d i → AreSame old s parts (take i xs))
+      → (s ≡ old → g (sent_at s.sents (get_or xs i d).0) ≡ sent_at s.sents (get_or xs i d).0 → (part ≡ get_or xs i d) × (u ≡ s)) → Stay (λ j. g (sent_at old.sents j.0)) (λ j. sent_at old.sents j.0) xs d (i + 1) → AreSame old u (parts ++ part ∷ []) (take (i + 1) xs)
+  conn-same-next s u parts i d part l before here = same-next (λ j. g (sent_at old.sents j.0)) (λ j. sent_at old.sents j.0) old s u xs parts i d part l before
+      (λ q e. here q (subst (λ (z : Trees). g (sent_at z.sents (get_or xs i d).0) ≡ sent_at z.sents (get_or xs i d).0) (sym q) e))
+
+  pub conn-same : (s : Trees) (parts : List SentId) (i : ℕ) (d : SentId) → length xs ≤ i → (Stay (λ j. g (sent_at old.sents j.0)) (λ j. sent_at old.sents j.0) xs d i → AreSame old s parts (take i xs)) → g (sent_at old.sents p) ≡ sent_at old.sents p → AreSame old s parts ids
+  conn-same s parts i d l before left =
+      let a = same-end (λ j. g (sent_at old.sents j.0)) (λ j. sent_at old.sents j.0) old s xs parts i d l before (conn-stays g h maps old p left c ids xs d (length xs) is same) in
+      (a.0 ∙ same, a.1)
 
 -- ---- binders: one that is renamed gets another index
 unmet-at : (f : SVar → Sort) (v : Var) (vs : List Var) → ((w : Var) → is_among w vs ≡ true → is_namesake v w ≡ false) → is_met f v vs ≡ false

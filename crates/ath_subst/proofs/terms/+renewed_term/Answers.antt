@@ -1,9 +1,11 @@
-use Rattle.std.proofs.Common.{◌∙◌, ap, arith}
+use Rattle.std.proofs.Common.{sym, ◌∙◌, ap, subst, arith}
 use Rattle.ath_sorts.specs.Sorts.{image, apply_to}
+use Rattle.ath_terms.specs.SortsIn.{IsSortedIn}
 use Rattle.ath_terms.specs.Trees.{term_at}
 use Rattle.ath_terms.proofs.Grow.{grows-then}
 use Rattle.ath_subst.proofs.KeptLaws.{term-kept-under}
-use Rattle.ath_subst.proofs.StepLaws.{images-step, app-tree, var-tree, node_has, terms-below}
+use Rattle.ath_subst.proofs.StepLaws.{images-step, app-tree, var-tree, node_has, terms-below, images-same-next, images-same, app-left}
+use Rattle.ath_subst.proofs.SameLaws.{node-same, sort-stays}
 use Rattle.ath_subst.proofs.terms.+renewed_term.Goals as goal
 
 pub keep_term-requires-clause-kept : goal.keep_term-requires-clause-kept
@@ -17,6 +19,7 @@ loop-i-preserved t c = record {
   parts = rw c.in_ok-push-in-App.ensures.ok (images-step c.args.store.now (image c.args.subst.now) c.term.result.now c.in_ok-node.node c.in-App.symbol c.in-App.sorts c.in-App.args c.as_slice-ids.result.now c.args.t.0 c.in_ok-node.ensures c.in-App.is c.as_slice-ids.ensures
       c.loop-i.store c.renewed_term.new.store c.loop-i.parts c.loop-i.i (record { 0 = 0 }) c.in_ok-part-in-App.part c.term.ensures.below c.requires (omega arith) c.loop-i.invariant.grows c.in_ok-part-in-App.ensures.grows c.loop-i.invariant.parts c.in_ok-part-in-App.ensures.tree.0);
   sort = c.loop-i.invariant.sort;
+  same = λ sig h. rw c.in_ok-push-in-App.ensures.ok (images-same-next c.args.store.now (image c.args.subst.now) c.term.result.now c.in_ok-node.node c.in-App.symbol c.in-App.sorts c.in-App.args c.as_slice-ids.result.now c.args.t.0 c.in_ok-node.ensures c.in-App.is c.as_slice-ids.ensures c.loop-i.store c.renewed_term.new.store c.loop-i.parts c.loop-i.i (record { 0 = 0 }) c.in_ok-part-in-App.part (omega arith) (c.loop-i.invariant.same sig h) (λ e. c.in_ok-part-in-App.ensures.same sig (subst (IsSortedIn sig) (sym e) h)));
   sorted = λ sig h ok. c.in_ok-part-in-App.ensures.sorted sig (c.loop-i.invariant.sorted sig h ok) ok;
 }
 
@@ -53,3 +56,17 @@ returns-in_ok-term-in-App-clause-sorted t c = λ sig h ok. c.in_ok-term-in-App.e
     (app-tree c.args.store.now (image c.args.subst.now) c.term.result.now c.in_ok-node.node c.in-App.symbol c.in-App.sorts c.in-App.args c.as_slice-ids.result.now c.args.t.0 c.in_ok-node.ensures c.in-App.is c.as_slice-ids.ensures
     c.loop-i.store c.loop-i.parts c.loop-i.i c.term.ensures.tree (omega arith) c.loop-i.invariant.parts)
     c.loop-i.invariant.sort)
+
+pub keep_term-requires-clause-left : goal.keep_term-requires-clause-left
+keep_term-requires-clause-left t c = λ h. ?
+
+pub keep_term-requires-in-App-clause-left : goal.keep_term-requires-in-App-clause-left
+keep_term-requires-in-App-clause-left t c = λ h. ?
+
+pub returns-in_ok-term-in-Var-clause-same : goal.returns-in_ok-term-in-Var-clause-same
+returns-in_ok-term-in-Var-clause-same t c = λ sig h left. ?
+
+pub returns-in_ok-term-in-App-clause-same : goal.returns-in_ok-term-in-App-clause-same
+returns-in_ok-term-in-App-clause-same t c = λ sig h left.
+    let a = images-same c.args.store.now (image c.args.subst.now) c.term.result.now c.in_ok-node.node c.in-App.symbol c.in-App.sorts c.in-App.args c.as_slice-ids.result.now c.args.t.0 c.in_ok-node.ensures c.in-App.is c.as_slice-ids.ensures c.loop-i.store c.loop-i.parts c.loop-i.i (record { 0 = 0 }) (omega arith) (c.loop-i.invariant.same sig h) c.term.ensures.tree left in
+    ?

@@ -38,7 +38,7 @@ fn are_same_sents(some: &[SentId], others: &[SentId]) -> bool
 
 /// Whether two nodes are one, with parts of the same numbers.
 pub fn is_same_term_node(some: &TermNode, other: &TermNode) -> bool
-    ensures { IsTrue result → some.now ≡ other.now }
+    ensures { IsTrue result ↔ (some.now ≡ other.now) }
 {
     match some {
         TermNode::Var(v) => match other {
@@ -62,7 +62,7 @@ pub fn is_same_term_node(some: &TermNode, other: &TermNode) -> bool
 
 /// Whether two nodes are one, with parts of the same numbers.
 pub fn is_same_sent_node(some: &SentNode, other: &SentNode) -> bool
-    ensures { IsTrue result → some.now ≡ other.now }
+    ensures { IsTrue result ↔ (some.now ≡ other.now) }
 {
     match some {
         SentNode::Atom(s) => match other {

@@ -115,6 +115,13 @@ fn are_one(some: &TermNode, sort: &Sort, other: &TermNode, whole: &Sort) -> bool
     is_same_term_node(some, other) && is_same(sort, whole)
 }
 
+/// Whether a node stays with all its parts.
+fn all_stay(stays: bool, old: &[TermId], new: &[TermId]) -> bool
+    ensures { IsTrue result ↔ (IsTrue stays × (old.now ≡ new.now)) }
+{
+    stays && are_same_terms(old, new)
+}
+
 /// The term under the substitution, part by part. A part that comes out as it was keeps its number.
 fn renewed_term(
     alloc: Global,
@@ -149,7 +156,7 @@ fn renewed_term(
                 let part = renewed_term(alloc, store, subst, ids[i])?;
                 parts.push(part)?;
             }
-            let is_left = stays && are_same_terms(ids, parts.as_slice());
+            let is_left = all_stay(stays, ids, parts.as_slice());
             let whole = TermNode::App(symbol, sorts, parts);
             let term = keep_term(store, t, is_left, whole, sort, nodes, levels)?;
             Ok(term)

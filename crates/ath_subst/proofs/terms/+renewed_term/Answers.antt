@@ -67,7 +67,7 @@ pub keep_term-requires-in-App-clause-left : goal.keep_term-requires-in-App-claus
 keep_term-requires-in-App-clause-left t c = λ h.
     let b = c.all_stay-is_left.ensures.0 h in
     let w = c.are_one-stays.ensures.0 b.0 in
-    app-left c.args.store.now (image c.args.subst.now) c.term-from.result.now c.in_ok-node.node c.in-App.symbol c.in-App.sorts c.in-App.args c.as_slice-ids.result.now c.args.t.0 c.in_ok-node.ensures c.in-App.is c.as_slice-ids.ensures c.loop-i.store c.loop-i.parts c.in_ok-sort.sort c.loop-i.invariant.grows c.requires c.term-from.ensures.below c.term-from.ensures.tree (sym w.1 ∙ c.sort_of-2.ensures) w.0 (b.1 ∙ c.as_slice.ensures)
+    app-left c.args.store.now (image c.args.subst.now) c.term-from.result.now c.in_ok-node.node c.in-App.symbol c.in-App.sorts c.in-App.args c.as_slice-ids.result.now c.args.t.0 c.in_ok-node.ensures c.in-App.is c.as_slice-ids.ensures c.loop-i.store c.loop-i.parts _ c.loop-i.invariant.grows c.requires c.term-from.ensures.below c.term-from.ensures.tree (c.loop-i.invariant.sort ∙ ap (apply_to (image c.args.subst.now)) (sym c.sort_of.ensures) ∙ sym c.in_ok-sort.ensures ∙ sym w.1 ∙ c.sort_of-2.ensures) w.0 (b.1 ∙ c.as_slice.ensures)
 
 pub returns-in_ok-term-in-Var-clause-same : goal.returns-in_ok-term-in-Var-clause-same
 returns-in_ok-term-in-Var-clause-same t c = λ sig h left.

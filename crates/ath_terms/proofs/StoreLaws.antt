@@ -11,7 +11,7 @@ use Rattle.ath_terms.specs.Kept.{Extent, IsTermKept, IsSentKept, AreEach}
 use Rattle.ath_terms.specs.declared.node.TermNode.{TermNode}
 use Rattle.ath_terms.specs.declared.node.SentNode.{SentNode}
 use Rattle.ath_terms.specs.declared.node.SentNode.TheVariants as node
-use Rattle.ath_trees.specs.Tree.{Term, Sent, atom, equal}
+use Rattle.ath_trees.specs.Tree.{Term, Sent, atom}
 use Rattle.ath_terms.specs.Blank.{blank}
 use Rattle.ath_terms.specs.Trees.{Trees, term_at, sort_at, sent_at}
 use Rattle.ath_terms.specs.Built.{built, IsOrdered}

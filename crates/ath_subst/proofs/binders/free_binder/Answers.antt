@@ -1,4 +1,4 @@
-use Rattle.std.proofs.Common.{◌≡◌, true, false, [], sym, ◌∙◌, ap}
+use Rattle.std.proofs.Common.{◌≡◌, true, false, sym, ◌∙◌, ap}
 use Rattle.std.specs.List.{list_any}
 use Rattle.ath_sorts.specs.Sorts.{image}
 use Rattle.ath_terms.specs.Trees.{sent_at}

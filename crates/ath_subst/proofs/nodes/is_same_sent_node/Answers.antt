@@ -1,5 +1,4 @@
 use Rattle.std.proofs.Common.{rules, ◌≡◌, sym, ◌∙◌, ap}
-use Rattle.ath_trees.specs.declared.node.SentId.{SentId}
 use Rattle.ath_terms.specs.declared.node.SentNode.TheVariants as node
 use Rattle.ath_terms.proofs.VariableLaws.{var_told}
 use Rattle.ath_subst.proofs.nodes.is_same_sent_node.Goals as goal

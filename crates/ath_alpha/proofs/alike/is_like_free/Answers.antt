@@ -1,4 +1,4 @@
-use Rattle.std.proofs.Common.{◌≡◌, ℕ, true, false, ◌==◌, ◌&&◌, ◌↔◌, sym, ◌∙◌, ap}
+use Rattle.std.proofs.Common.{◌≡◌, ℕ, true, false, ◌==◌, ◌&&◌, ◌↔◌, ap}
 use Rattle.ath_sorts.specs.Signature.{boolean}
 use Rattle.ath_sorts.proofs.Bools.{and_parts, same_num, num_same}
 use Rattle.ath_trees.specs.declared.node.Var.{Var}

@@ -120,7 +120,7 @@ module _ (w v : World) (moved : Evaluates w v) (still : v.scope ≡ w.scope) whe
   spent_here r at inner made p f g e n = record {
     events = one_event v.store r.events.items (telling.Fuel at) (Event.exhausted inner) e tt (ap Event.exhausted p);
     next = ap next_of n;
-    state = state_left w v 0 made moved f g;
+    state = state_left w v 0 made moved still f g;
   }
 
   pub spent_asserted : (closed : Bool) (r : Reply) (at place : Pos) (o : Outcome) → IsOutcome v.store v.fuel v.fresh (out.Exhausted at) o → r.events.items ≡ telling.Fuel at ∷ [] → r.next ≡ next.Stop → IsReply v r (asserting (state_of w) closed place o)

@@ -27,12 +27,12 @@ is_method_name-requires c =
 
 pub returns-then-is_method_name-clause-parts : goal.returns-then-is_method_name-clause-parts
 returns-then-is_method_name-clause-parts c = λ x h.
-    subst (λ (is : List PhraseId). ArePartsOf c.args.phrases.now (Some is) (parts c.args.names.now x)) (sym c.as_slice-in-Call.ensures)
+    subst (λ (is : List PhraseId). ArePartsOf c.args.phrases.now (Some is) (parts c.args.names.now x)) (sym c.as_slice-then-is_method_name.ensures)
     (call_parts c.args.phrases.now c.args.names.now true c.args.phrase c.node.result.now c.in-Call.head c.in-Call.parts c.node.ensures.node c.in-Call.is (λ y k. sym c.if-is_method_name.true ∙ c.is_method_name.ensures y k) x h)
 
 pub returns-then-is_method_name-clause-smaller : goal.returns-then-is_method_name-clause-smaller
 returns-then-is_method_name-clause-smaller c =
-    subst (λ (is : List PhraseId). All (λ i. i.0 < c.args.phrase.0) is) (sym c.as_slice-in-Call.ensures)
+    subst (λ (is : List PhraseId). All (λ i. i.0 < c.args.phrase.0) is) (sym c.as_slice-then-is_method_name.ensures)
     (call_below c.args.phrases.now c.args.phrase.0 c.node.result.now.deduction c.node.result.now.form c.in-Call.head c.in-Call.parts c.in-Call.is c.node.ensures.fits)
 
 pub returns-in-Name-clause-parts : goal.returns-in-Name-clause-parts

@@ -1,5 +1,5 @@
-use Rattle.ath_tests.proofs.EmptyStore.{empty_sorted}
-use Rattle.ath_tests.proofs.lines.expect_plain.Goals as goal
+use Rattle.ath_print_tests.proofs.EmptyStore.{empty_sorted}
+use Rattle.ath_print_tests.proofs.lines.expect_plain.Goals as goal
 
 pub expect_line-requires-clause-inside : goal.expect_line-requires-clause-inside
 expect_line-requires-clause-inside g c = c.requires c.new-store.result

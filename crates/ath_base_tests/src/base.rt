@@ -36,13 +36,26 @@ fn the_newest_entry_is_answered(rt: HostRuntime) -> Result<(), Fail> {
         panic!(rt; "it doesn't hold");
     };
     assert!(rt; matches!(entry.origin, Origin::Concluded));
-    // older scopes keep their entries, and others aren't seen
+    Ok(())
+}
+
+#[test]
+fn a_scope_keeps_its_entries(rt: HostRuntime) -> Result<(), Fail> {
+    let alloc = rt.alloc();
+    let mut store = Store::new(alloc);
+    let x = store.var(&variable(alloc, Sym(150))?)?;
+    let y = store.var(&variable(alloc, Sym(151))?)?;
+    let p = store.raw_sent(alloc, &SentNode::Eq(x, x))?;
+    let r = store.raw_sent(alloc, &SentNode::Eq(x, y))?;
+    let mut base = Base::new(alloc);
+    let none = ScopeId(0);
+    let first = base.add(none, p, Origin::Hypothesis)?;
     let other = base.add(first, r, Origin::Concluded)?;
     let Some(entry) = base.holds(&store, other, p) else {
         panic!(rt; "it doesn't hold");
     };
     assert!(rt; matches!(entry.origin, Origin::Hypothesis));
-    assert!(rt; base.holds(&store, second, r).is_none());
+    assert!(rt; base.holds(&store, first, r).is_none());
     assert!(rt; base.holds(&store, none, r).is_none());
     Ok(())
 }

@@ -1,0 +1,5 @@
+//! Tests of alpha-equality and sort instances.
+#![tactic(auto)]
+
+#[cfg(test)]
+mod alpha;

@@ -1,0 +1,5 @@
+//! Tests of the assumption base.
+#![tactic(auto)]
+
+#[cfg(test)]
+mod base;

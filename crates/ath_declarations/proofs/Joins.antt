@@ -15,7 +15,7 @@ use Rattle.ath_sorts.proofs.Bools.{turned, or-false}
 use Rattle.ath_sorts.proofs.ValidityLaws.{uses_kept}
 use Rattle.ath_declarations.specs.declared.declaring.DeclareError.{DeclareError}
 use Rattle.ath_declarations.specs.declared.declaring.DeclareError.TheVariants.{Flawed}
-use Rattle.ath_declarations.specs.Declarations.{joined}
+use Rattle.ath_declarations.specs.Declarations.{with_symbols}
 use Rattle.ath_declarations.specs.Steps.{has_name, first_taken, MatchTest}
 use Rattle.ath_declarations.specs.Texts.{unless}
 
@@ -113,41 +113,41 @@ module _ (params : List Sym) (args : List Sort) (result : Sort) where
         ∙ ap (λ b. is_some (symbol_of first n) || (has_name seen n || b)) (turned m.0 n.0)
         ∙ ap (λ b. is_some (symbol_of first n) || b) (sym (has_last seen m n))
 
-    taken_tells : (names seen : List Sym) (sig : Signature) → Sees sig seen → Passes sig → Tells (first_taken first seen names) (joined sig names params args result)
+    taken_tells : (names seen : List Sym) (sig : Signature) → Sees sig seen → Passes sig → Tells (first_taken first seen names) (with_symbols sig names params args result)
     taken_tells [] seen sig h p = refl
     taken_tells (n ∷ names) seen sig h p = subst (λ f. Tells (first_taken first seen (n ∷ names)) (unless f rest)) (sym (name_fault sig n p)) (by (is_some (symbol_of sig n)) (sym (h n)) (taken_tells names (seen ++ n ∷ []) (with_symbol sig (named n)) (sees_more sig seen n h) (still sig (named n) p)))
       where
         rest : Result Signature Flaw
-        rest = joined (with_symbol sig (named n)) names params args result
+        rest = with_symbols (with_symbol sig (named n)) names params args result
 
         by : (b : Bool) → (is_some (symbol_of first n) || has_name seen n) ≡ b → Tells (first_taken first (seen ++ n ∷ []) names) rest → Tells (first_taken first seen (n ∷ names)) (unless (fault_if b (Redeclared n)) rest)
         by true e r = subst (λ b. Tells (cond b (Some n) (first_taken first (seen ++ n ∷ []) names)) (Err (Redeclared n))) (sym e) refl
         by false e r = subst (λ b. Tells (cond b (Some n) (first_taken first (seen ++ n ∷ []) names)) rest) (sym e) r
 
-    all_tested : (n : Sym) (names : List Sym) → symbol_fault first n params args result ≡ None → Tells (first_taken first [] (n ∷ names)) (joined first (n ∷ names) params args result)
+    all_tested : (n : Sym) (names : List Sym) → symbol_fault first n params args result ≡ None → Tells (first_taken first [] (n ∷ names)) (with_symbols first (n ∷ names) params args result)
     all_tested n names h = taken_tells (n ∷ names) [] first (λ n. sym (or-false (is_some (symbol_of first n)))) (passes first n h)
 
-  pub tested : (sig : Signature) (names : List Sym) (d : Sym) → 0 < length names → symbol_fault sig (get_or names 0 d) params args result ≡ None → Tells (first_taken sig [] names) (joined sig names params args result)
+  pub tested : (sig : Signature) (names : List Sym) (d : Sym) → 0 < length names → symbol_fault sig (get_or names 0 d) params args result ≡ None → Tells (first_taken sig [] names) (with_symbols sig names params args result)
   tested sig [] d h f = absurd (omega arith)
   tested sig (n ∷ names) d h f = all_tested sig n names f
 
-  pub first_refused : (sig : Signature) (names : List Sym) (d : Sym) (e : Flaw) → 0 < length names → symbol_fault sig (get_or names 0 d) params args result ≡ Some e → joined sig names params args result ≡ Err e
+  pub first_refused : (sig : Signature) (names : List Sym) (d : Sym) (e : Flaw) → 0 < length names → symbol_fault sig (get_or names 0 d) params args result ≡ Some e → with_symbols sig names params args result ≡ Err e
   first_refused sig [] d e h f = absurd (omega arith)
-  first_refused sig (n ∷ names) d e h f = ap (λ f. unless f (joined (with_symbol sig (named n)) names params args result)) f
+  first_refused sig (n ∷ names) d e h f = ap (λ f. unless f (with_symbols (with_symbol sig (named n)) names params args result)) f
 
   -- ---- the names join
   -- the first few have joined, and the others join that signature
   pub record JoinsTo (old : Signature) (names : List Sym) (k : ℕ) (sig : Signature) : Type 0 where
-    pub done : joined old (take k names) params args result ≡ Ok sig
-    pub rest : joined sig (drop k names) params args result ≡ joined old names params args result
+    pub done : with_symbols old (take k names) params args result ≡ Ok sig
+    pub rest : with_symbols sig (drop k names) params args result ≡ with_symbols old names params args result
 
-  joined_last : (names : List Sym) (old sig : Signature) (n : Sym) → joined old names params args result ≡ Ok sig → symbol_fault sig n params args result ≡ None → joined old (names ++ n ∷ []) params args result ≡ Ok (with_symbol sig (named n))
+  joined_last : (names : List Sym) (old sig : Signature) (n : Sym) → with_symbols old names params args result ≡ Ok sig → symbol_fault sig n params args result ≡ None → with_symbols old (names ++ n ∷ []) params args result ≡ Ok (with_symbol sig (named n))
   joined_last [] old sig n e f =
       let s : old ≡ sig = cc in
       ap (λ (s : Signature). unless (symbol_fault s n params args result) (Ok (with_symbol s (named n)))) s ∙ ap (λ f. unless f (Ok (with_symbol sig (named n)))) f
   joined_last (m ∷ names) old sig n e f = by (symbol_fault old m params args result) e (λ e. joined_last names (with_symbol old (named m)) sig n e f)
     where
-      by : (g : Option Flaw) → unless g (joined (with_symbol old (named m)) names params args result) ≡ Ok sig → (joined (with_symbol old (named m)) names params args result ≡ Ok sig → joined (with_symbol old (named m)) (names ++ n ∷ []) params args result ≡ Ok (with_symbol sig (named n))) → unless g (joined (with_symbol old (named m)) (names ++ n ∷ []) params args result) ≡ Ok (with_symbol sig (named n))
+      by : (g : Option Flaw) → unless g (with_symbols (with_symbol old (named m)) names params args result) ≡ Ok sig → (with_symbols (with_symbol old (named m)) names params args result ≡ Ok sig → with_symbols (with_symbol old (named m)) (names ++ n ∷ []) params args result ≡ Ok (with_symbol sig (named n))) → unless g (with_symbols (with_symbol old (named m)) (names ++ n ∷ []) params args result) ≡ Ok (with_symbol sig (named n))
       by None e r = r e
       by (Some x) e r = absurd (cc)
 
@@ -155,15 +155,15 @@ module _ (params : List Sym) (args : List Sort) (result : Sort) where
     abbrev here : Sym
     here = get_or names k d
 
-    unfolded : joined sig (drop k names) params args result ≡ unless (symbol_fault sig here params args result) (joined (with_symbol sig (named here)) (drop (k + 1) names) params args result)
+    unfolded : with_symbols sig (drop k names) params args result ≡ unless (symbol_fault sig here params args result) (with_symbols (with_symbol sig (named here)) (drop (k + 1) names) params args result)
     unfolded =
         let r : drop k names ≡ here ∷ drop (k + 1) names = rw add-one (drop-cons names k d lt) in
-        ap (λ ns. joined sig ns params args result) r
+        ap (λ ns. with_symbols sig ns params args result) r
 
     pub joins_next : (new : Signature) → new ≡ with_symbol sig (named here) → symbol_fault sig here params args result ≡ None → JoinsTo old names (k + 1) new
     joins_next new e f = subst (JoinsTo old names (k + 1)) (sym e) (record {
-      done = ap (λ ns. joined old ns params args result) (take_more names k d lt) ∙ joined_last (take k names) old sig here j.done f;
-      rest = sym (ap (λ f. unless f (joined (with_symbol sig (named here)) (drop (k + 1) names) params args result)) f) ∙ sym unfolded ∙ j.rest;
+      done = ap (λ ns. with_symbols old ns params args result) (take_more names k d lt) ∙ joined_last (take k names) old sig here j.done f;
+      rest = sym (ap (λ f. unless f (with_symbols (with_symbol sig (named here)) (drop (k + 1) names) params args result)) f) ∙ sym unfolded ∙ j.rest;
     })
 
 -- what a symbol that was added tells

@@ -15,7 +15,7 @@ use Rattle.ath_sorts.specs.Validity.{AreDistinct, has_made, IsValid}
 use Rattle.ath_sorts.proofs.Bools.{true-not-false, num_same}
 use Rattle.ath_sorts.proofs.ValidityLaws as law
 use Rattle.ath_syntax.specs.declared.node.SortText.{SortText}
-use Rattle.ath_declarations.specs.Declarations.{domain_declared, params_of, joined, declared}
+use Rattle.ath_declarations.specs.Declarations.{domain_declared, params_of, with_symbols, declared}
 use Rattle.ath_declarations.specs.Laws.{IsMeant, IsThere, Keeps}
 use Rattle.ath_declarations.specs.Texts.{sort_of, written_in, unless, text_fault, meaning}
 use Rattle.ath_declarations.proofs.Joins.{first_none, no_fault, name_free}
@@ -97,25 +97,25 @@ module _ (params : List Sym) (args : List Sort) (result : Sort) where
   abbrev named : Sym → Symbol
   named n = record { name = n; params = params; args = args; result = result }
 
-  joined_keeps : (names : List Sym) (old new : Signature) → joined old names params args result ≡ Ok new → Keeps old new
+  joined_keeps : (names : List Sym) (old new : Signature) → with_symbols old names params args result ≡ Ok new → Keeps old new
   joined_keeps [] old new h = subst (Keeps old) (ok_is old new h) (kept_itself old)
   joined_keeps (n ∷ names) old new h =
-      let e = unless_ok (symbol_fault old n params args result) (joined (with_symbol old (named n)) names params args result) new h in
+      let e = unless_ok (symbol_fault old n params args result) (with_symbols (with_symbol old (named n)) names params args result) new h in
       kept_on old (with_symbol old (named n)) new
       (record { sorts = λ c n k. k; symbols = λ f s k. symbol_still old.symbols (named n) f s k })
       (joined_keeps names (with_symbol old (named n)) new e.1)
 
-  joined_there : (names : List Sym) (old new : Signature) → joined old names params args result ≡ Ok new → AllByRecursion (λ n. symbol_of new n ≡ Some (named n)) names
+  joined_there : (names : List Sym) (old new : Signature) → with_symbols old names params args result ≡ Ok new → AllByRecursion (λ n. symbol_of new n ≡ Some (named n)) names
   joined_there [] old new h = tt
   joined_there (n ∷ names) old new h =
-      let e = unless_ok (symbol_fault old n params args result) (joined (with_symbol old (named n)) names params args result) new h in
+      let e = unless_ok (symbol_fault old n params args result) (with_symbols (with_symbol old (named n)) names params args result) new h in
       let k = joined_keeps names (with_symbol old (named n)) new e.1 in
       (k.symbols n (named n) (symbol_new old.symbols (named n) (name_free params args result old n e.0)), joined_there names (with_symbol old (named n)) new e.1)
 
-  joined_valid : (names : List Sym) (old new : Signature) → AreDistinct params → list_any has_made (args ++ result ∷ []) ≡ false → IsValid old → joined old names params args result ≡ Ok new → IsValid new
+  joined_valid : (names : List Sym) (old new : Signature) → AreDistinct params → list_any has_made (args ++ result ∷ []) ≡ false → IsValid old → with_symbols old names params args result ≡ Ok new → IsValid new
   joined_valid [] old new d w v h = subst IsValid (ok_is old new h) v
   joined_valid (n ∷ names) old new d w v h =
-      let e = unless_ok (symbol_fault old n params args result) (joined (with_symbol old (named n)) names params args result) new h in
+      let e = unless_ok (symbol_fault old n params args result) (with_symbols (with_symbol old (named n)) names params args result) new h in
       joined_valid names (with_symbol old (named n)) new d w (law.symbols_keep_validity old (named n) v d w e.0) e.1
 
 pub symbols_keep : (old new : Signature) (names : List Sym) (list : Option (List Sym)) (args : List SortText) (result : SortText) → declared old names list args result ≡ Ok new → Keeps old new

@@ -8,7 +8,7 @@ use Rattle.ath_sorts.specs.declared.sorts.Sym.{Sym}
 use Rattle.ath_sorts.specs.Declaring.{domain_fault, symbol_fault, with_sort, with_symbol}
 use Rattle.ath_sorts.specs.Signature.{Signature, symbol_among}
 use Rattle.ath_syntax.specs.declared.node.SortText.{SortText}
-use Rattle.ath_declarations.specs.Declarations.{domain_declared, params_of, joined, declared}
+use Rattle.ath_declarations.specs.Declarations.{domain_declared, params_of, with_symbols, declared}
 use Rattle.ath_declarations.specs.Laws.{AreNarrow}
 use Rattle.ath_declarations.specs.Texts.{sort_of}
 use Rattle.ath_declarations.proofs.Joins.{passes}
@@ -46,10 +46,10 @@ module _ (params : List Sym) (args : List Sort) (result : Sort) where
   abbrev named : Sym → Symbol
   named n = record { name = n; params = params; args = args; result = result }
 
-  joined_narrow : (names : List Sym) (old new : Signature) → AreNarrow old → joined old names params args result ≡ Ok new → AreNarrow new
+  joined_narrow : (names : List Sym) (old new : Signature) → AreNarrow old → with_symbols old names params args result ≡ Ok new → AreNarrow new
   joined_narrow [] old new h e = subst AreNarrow (ok_is old new e) h
   joined_narrow (n ∷ names) old new h e =
-      let u = unless_ok (symbol_fault old n params args result) (joined (with_symbol old (named n)) names params args result) new e in
+      let u = unless_ok (symbol_fault old n params args result) (with_symbols (with_symbol old (named n)) names params args result) new e in
       let p = passes params args result old n u.0 in
       joined_narrow names (with_symbol old (named n)) new (one_more old (named n) (narrow_here params args p.width) h) u.1
 

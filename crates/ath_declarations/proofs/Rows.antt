@@ -10,7 +10,7 @@ use Rattle.ath_sorts.specs.Sorts.{is_small}
 use Rattle.ath_sorts.proofs.SortLaws.{size-con, depth-con}
 use Rattle.ath_sorts.specs.Signature.{initial}
 use Rattle.ath_syntax.specs.declared.node.SortText as text
-use Rattle.ath_declarations.specs.Declarations.{domain_declared, params_of, joined, declared}
+use Rattle.ath_declarations.specs.Declarations.{domain_declared, params_of, with_symbols, declared}
 use Rattle.ath_declarations.specs.Texts.{sort_of, firsts, unless}
 use Rattle.ath_declarations.proofs.Places.{use-con, written_var, written_con}
 use Rattle.ath_declarations.proofs.TextLaws.{name_is, variable_is, application_is}
@@ -63,7 +63,7 @@ domain : domain_declared initial c (a ∷ b ∷ []) ≡ Ok (with_sort initial c 
 domain = refl
 
 -- a name that is a symbol's is refused before its sorts are looked at
-taken : (args : List Sort) → joined initial (record { 0 = 1 } ∷ a ∷ []) [] args (Con c []) ≡ Err (Redeclared (record { 0 = 1 }))
+taken : (args : List Sort) → with_symbols initial (record { 0 = 1 } ∷ a ∷ []) [] args (Con c []) ≡ Err (Redeclared (record { 0 = 1 }))
 taken args = refl
 
 -- ---- `declare a, a: Boolean`
@@ -76,8 +76,8 @@ boolean-small = λ i. nat_le (size-con boolean [] i) 1000 && nat_le (depth-con b
 free : symbol_fault initial a [] [] (Con boolean []) ≡ None
 free = λ i. first_fault (None ∷ None ∷ first_fault (boolean-there i ∷ []) ∷ cond (boolean-small i && true) None (Some SortTooLarge) ∷ None ∷ [])
 
-twice : joined initial (a ∷ a ∷ []) [] [] (Con boolean []) ≡ Err (Redeclared a)
+twice : with_symbols initial (a ∷ a ∷ []) [] [] (Con boolean []) ≡ Err (Redeclared a)
 twice = ap (λ f. unless f (Err (Redeclared a))) free
 
 twice-declared : declared initial (a ∷ a ∷ []) None [] (text.Name boolean) ≡ Err (Redeclared a)
-twice-declared = (λ i. joined initial (a ∷ a ∷ []) (params_of None (name_is boolean i ∷ [])) [] (name_is boolean i)) ∙ (λ i. joined initial (a ∷ a ∷ []) (firsts (written_con boolean [] i ++ [])) [] (Con boolean [])) ∙ twice
+twice-declared = (λ i. with_symbols initial (a ∷ a ∷ []) (params_of None (name_is boolean i ∷ [])) [] (name_is boolean i)) ∙ (λ i. with_symbols initial (a ∷ a ∷ []) (firsts (written_con boolean [] i ++ [])) [] (Con boolean [])) ∙ twice

@@ -19,13 +19,13 @@ params_of (Some params) sorts = params
 params_of None sorts = firsts (flat_map written_in sorts)
 
 -- the names become symbols one after the other, each with all its tests; the first refusal refuses them all
-abbrev pub joined : Signature → List Sym → List Sym → List Sort → Sort → Result Signature Flaw
-joined sig [] params args result = Ok sig
-joined sig (n ∷ names) params args result = unless (symbol_fault sig n params args result) (joined (with_symbol sig (record { name = n; params = params; args = args; result = result })) names params args result)
+abbrev pub with_symbols : Signature → List Sym → List Sym → List Sort → Sort → Result Signature Flaw
+with_symbols sig [] params args result = Ok sig
+with_symbols sig (n ∷ names) params args result = unless (symbol_fault sig n params args result) (with_symbols (with_symbol sig (record { name = n; params = params; args = args; result = result })) names params args result)
 
 -- the signature after a declaration of these names, with the list of parameters where it has one, or why it is refused
 abbrev pub declared : Signature → List Sym → Option (List Sym) → List SortText → SortText → Result Signature Flaw
 declared sig names list args result =
     let sorts = map sort_of args in
     let sort = sort_of result in
-    joined sig names (params_of list (sorts ++ sort ∷ [])) sorts sort
+    with_symbols sig names (params_of list (sorts ++ sort ∷ [])) sorts sort

@@ -10,7 +10,7 @@ use Rattle.ath_sorts.specs.Declaring.{constructor_fault}
 use Rattle.ath_sorts.specs.Signature.{Signature, arity_of, symbol_of}
 use Rattle.ath_declarations.specs.declared.declaring.DeclareError.{DeclareError}
 use Rattle.ath_declarations.specs.declared.declaring.DeclareError.TheVariants as error
-use Rattle.ath_declarations.specs.Declarations.{joined}
+use Rattle.ath_declarations.specs.Declarations.{with_symbols}
 
 abbrev pub has_name : List Sym → Sym → Bool
 has_name names n = list_any (λ m. n.0 == m.0) names
@@ -42,4 +42,4 @@ MatchTest outcome (Err (error.Flawed f)) = outcome ≡ Err f
 -- the new signature has the first few of the names, perhaps none
 pub record HasSome (old new : Signature) (names params : List Sym) (args : List Sort) (result : Sort) : Type 0 where
   pub count : ℕ
-  pub after : joined old (take count names) params args result ≡ Ok new
+  pub after : with_symbols old (take count names) params args result ≡ Ok new

@@ -1,7 +1,7 @@
 // Tests of a declaration that add nothing.
 
 ghost use Rattle.std.specs.Prelude.{◌≡◌, [], IfOk};
-ghost use Rattle.ath_sorts.specs.Answers.{IsFault};
+ghost use Rattle.ath_sorts.specs.Answers.{IsFlaw};
 ghost use Rattle.ath_declarations.specs.Steps.{first_taken, place_fault};
 
 use ath_sorts::{Flaw, Signature, Sort, Sym};
@@ -10,7 +10,7 @@ use std::alloc::{AllocError, Global};
 
 /// Refuses the first bad constructor of a sort, from the left. Every variable is allowed.
 pub(crate) fn check_constructors(sig: &Signature, sort: &Sort) -> Result<(), Flaw>
-    ensures { IsFault (place_fault sig.now sort.now) result }
+    ensures { IsFlaw (place_fault sig.now sort.now) result }
 {
     match sort {
         Sort::Var(_) => Ok(()),

@@ -2,7 +2,7 @@
 
 ghost use Rattle.std.specs.Prelude.{◌≡◌, ◌++◌, ◌∷◌, [], IfOk, OnErr, OnOk, map, is_ok, true, Ok};
 ghost use Rattle.ath_declarations.specs.Outcomes.{MatchChange, IsBegun};
-ghost use Rattle.ath_declarations.specs.Declarations.{declared, domain_declared, joined, params_of};
+ghost use Rattle.ath_declarations.specs.Declarations.{declared, domain_declared, with_symbols, params_of};
 ghost use Rattle.ath_declarations.specs.Steps.{HasSome, MatchTest};
 ghost use Rattle.ath_declarations.specs.Texts.{sort_of};
 ghost use Rattle.ath_declarations.specs.declared.declaring.DeclareError.TheVariants.{Flawed, Memory};
@@ -125,7 +125,7 @@ fn check_names(
     names: &[Sym],
     shape: &Shape,
 ) -> Result<(), DeclareError>
-    ensures { MatchTest (joined sig.now names.now shape.now.params.items shape.now.args.items shape.now.result) result }
+    ensures { MatchTest (with_symbols sig.now names.now shape.now.params.items shape.now.args.items shape.now.result) result }
 {
     if names.is_empty() {
         return Ok(());
@@ -144,8 +144,8 @@ fn add_names(
     names: &[Sym],
     shape: &Shape,
 ) -> Result<(), AllocError>
-    requires { is_ok (joined sig.old names.now shape.now.params.items shape.now.args.items shape.now.result) ≡ true }
-    ensures added { OnOk result (joined sig.old names.now shape.now.params.items shape.now.args.items shape.now.result ≡ Ok sig.new) }
+    requires { is_ok (with_symbols sig.old names.now shape.now.params.items shape.now.args.items shape.now.result) ≡ true }
+    ensures added { OnOk result (with_symbols sig.old names.now shape.now.params.items shape.now.args.items shape.now.result ≡ Ok sig.new) }
     ensures begun { OnErr result (HasSome sig.old sig.new names.now shape.now.params.items shape.now.args.items shape.now.result) }
 {
     for name in names {

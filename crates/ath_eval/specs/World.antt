@@ -6,7 +6,7 @@ use Rattle.ath_terms.specs.declared.fresh.Fresh.{Fresh}
 use Rattle.ath_calculus.specs.Derives.{Derives}
 use Rattle.ath_calculus.specs.Theory.{Theory, theory_of}
 use Rattle.ath_env.specs.Stands.{IsValue}
-use Rattle.ath_print.specs.Stands.{IsFault}
+use Rattle.ath_print.specs.Stands.{IsRefusal}
 use Rattle.ath_eval.specs.declared.world.World.{World}
 use Rattle.ath_eval.specs.declared.world.Outcome as code
 use Rattle.ath_eval.specs.declared.world.Outcome.TheVariants as ends
@@ -33,7 +33,7 @@ left_in w = left_of w.fuel w.fresh
 abbrev pub IsOutcome : Trees → ℕ → Fresh → code.Outcome → Outcome → Type 0
 IsOutcome s fuel fresh (ends.Value v) (gives x left) = IsValue s v x × (fuel ≡ left.fuel) × (fresh ≡ left.fresh)
 IsOutcome s fuel fresh (ends.Theorem p) (concludes x left) = IsSent s p.0 x × (fuel ≡ left.fuel) × (fresh ≡ left.fresh)
-IsOutcome s fuel fresh (ends.Error why at) (fails place x left) = (at ≡ place) × IsFault s why x × (fuel ≡ left.fuel) × (fresh ≡ left.fresh)
+IsOutcome s fuel fresh (ends.Error why at) (fails place x left) = (at ≡ place) × IsRefusal s why x × (fuel ≡ left.fuel) × (fresh ≡ left.fresh)
 IsOutcome s fuel fresh (ends.Exhausted at) (exhausts place made) = (at ≡ place) × (fuel ≡ 0) × (fresh ≡ made)
 IsOutcome s fuel fresh o x = ⊥
 

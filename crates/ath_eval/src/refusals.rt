@@ -7,7 +7,7 @@ ghost use Rattle.ath_terms.specs.declared.measure.BuildError.TheVariants as buil
 ghost use Rattle.ath_construction.specs.Construction.{Unbuilt};
 ghost use Rattle.ath_print.specs.declared.fault.FaultKind.TheVariants.{ArgCount, Unbound};
 ghost use Rattle.ath_print.specs.Events.{name_named, number_named};
-ghost use Rattle.ath_print.specs.Stands.{IsFault};
+ghost use Rattle.ath_print.specs.Stands.{IsRefusal};
 ghost use Rattle.ath_eval.specs.Building.{told};
 ghost use Rattle.ath_eval.specs.Stands.{IsWhy};
 ghost use Rattle.ath_eval.specs.Evaluation.{sort_refusal};
@@ -79,7 +79,7 @@ pub(crate) fn unbound(alloc: Global, name: Sym, at: Pos) -> Result<Outcome, Allo
 
 /// Why a sort's text is refused.
 fn sort_fault(alloc: Global, error: SigError) -> Result<Fault, AllocError>
-    ensures fault { IfOk result (λ f. (s : Trees) → IsFault s f (sort_refusal error)) }
+    ensures fault { IfOk result (λ f. (s : Trees) → IsRefusal s f (sort_refusal error)) }
     ensures memory { IfOk result (λ _. error ≡ sort_error.Memory → ⊥) }
 {
     match error {
@@ -103,7 +103,7 @@ pub(crate) fn bad_sort(alloc: Global, error: SigError, at: Pos) -> Result<Outcom
 
 /// Why something isn't built.
 pub fn build_fault(alloc: Global, error: BuildError) -> Result<Fault, AllocError>
-    ensures fault { IfOk result (λ f. (s : Trees) (why : Unbuilt) → IsWhy s error why → IsFault s f (told why)) }
+    ensures fault { IfOk result (λ f. (s : Trees) (why : Unbuilt) → IsWhy s error why → IsRefusal s f (told why)) }
     ensures memory { IfOk result (λ _. error ≡ build_error.Memory → ⊥) }
 {
     match error {

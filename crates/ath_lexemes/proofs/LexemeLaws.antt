@@ -10,8 +10,8 @@ use Rattle.ath_sorts.specs.declared.sorts.Sym.{Sym}
 use Rattle.ath_syntax.specs.Fits.{IsSomeWord}
 use Rattle.ath_grammar.specs.declared.class.WordClass.TheVariants.{Plain, Dotted}
 use Rattle.ath_grammar.specs.declared.lexeme.Lexeme.TheVariants.{Word, Wild, SomeOf}
-use Rattle.ath_names.specs.Names.{number_of, first_names, fixed_words, numbered, IsTable, Grows}
-use Rattle.ath_names.proofs.NamesLaws.{Grows-trans, text_kept, number_kept, number_of_text}
+use Rattle.ath_names.specs.Names.{number_of, first_names, fixed_words, numbered, IsTable, KeepsNames}
+use Rattle.ath_names.proofs.NamesLaws.{KeepsNames-trans, text_kept, number_kept, number_of_text}
 use Rattle.ath_tokens.specs.declared.tokens.Token.{Token}
 use Rattle.ath_tokens.specs.declared.tokens.Token.TheVariants.{Word as WordToken, Var as VarToken, SortVar as SortVarToken, Str as StrToken, Punct, Becomes as BecomesToken}
 use Rattle.ath_lexemes.specs.declared.reserved.Reserved.{Reserved}
@@ -23,10 +23,10 @@ use Rattle.ath_lexemes.specs.Numbered.{text_of, IsNumbered, lexeme_of}
 text_at : (names : List (List ℕ)) (n : Sym) → n.0 < length names → slice_get names n.0 ≡ Some (text_of names n)
 text_at names n lt = slice_get-get_or names n.0 [] lt
 
-text_of_kept : (old new : List (List ℕ)) → Grows old new → (n : Sym) → n.0 < length old → text_of new n ≡ text_of old n
+text_of_kept : (old new : List (List ℕ)) → KeepsNames old new → (n : Sym) → n.0 < length old → text_of new n ≡ text_of old n
 text_of_kept old new g n lt = get_or_from_slice_get new n.0 (text_of old n) [] (text_kept g n.0 lt ∙ text_at old n lt)
 
-pub lexeme_kept : (old new : List (List ℕ)) → Grows old new → (t : Token) → IsNumbered old t → lexeme_of new t ≡ lexeme_of old t
+pub lexeme_kept : (old new : List (List ℕ)) → KeepsNames old new → (t : Token) → IsNumbered old t → lexeme_of new t ≡ lexeme_of old t
 lexeme_kept old new g (WordToken n) lt = ap (λ text. word_lexeme text n) (text_of_kept old new g n lt)
 lexeme_kept old new g (VarToken n index) lt = refl
 lexeme_kept old new g (SortVarToken n) lt = refl
@@ -122,8 +122,8 @@ unfolding wild_rows
 this_is_wild = refl
 
 -- a fixed word's number
-Grows-fixed : (names : List (List ℕ)) → Grows first_names names → Grows fixed_words names
-Grows-fixed names g = Grows-trans (record { more = numbered (codes "x") 64 ++ numbered (codes "y") 64; longer = refl }) g
+Grows-fixed : (names : List (List ℕ)) → KeepsNames first_names names → KeepsNames fixed_words names
+Grows-fixed names g = KeepsNames-trans (record { more = numbered (codes "x") 64 ++ numbered (codes "y") 64; longer = refl }) g
 
 -- the text is a fixed word with one of these numbers
 abbrev IsPlaced : List ℕ → Type 0
@@ -182,13 +182,13 @@ module _ (text : List ℕ) where
   wild_placed : list_any is_row (filter (λ e. is_wild_word e.1) reserved_words) ≡ true → text ≡ codes "_"
   wild_placed h = in_wild_rows (subst (λ rows. list_any is_row rows ≡ true) this_is_wild h)
 
-some_number : (names : List (List ℕ)) → IsTable names → Grows first_names names → (n : Sym) → n.0 < length names → IsPlaced (text_of names n) → IsSomeWord n
+some_number : (names : List (List ℕ)) → IsTable names → KeepsNames first_names names → (n : Sym) → n.0 < length names → IsPlaced (text_of names n) → IsSomeWord n
 some_number names table g n lt p =
     let e : n.0 ≡ p.0 = same_Some _ _ (sym (number_of_text names n.0 (text_of names n) table (text_at names n lt)) ∙ number_kept (Grows-fixed names g) (text_of names n) p.0 p.3) in
     (omega (arith, p.1), omega (arith, p.2))
 
 -- the words `some-..` have their fixed numbers
-pub some_words : (names : List (List ℕ)) → IsTable names → Grows first_names names → (t : Token) (k : Sym) → IsNumbered names t → lexeme_of names t ≡ SomeOf k → IsSomeWord k
+pub some_words : (names : List (List ℕ)) → IsTable names → KeepsNames first_names names → (t : Token) (k : Sym) → IsNumbered names t → lexeme_of names t ≡ SomeOf k → IsSomeWord k
 some_words names table g (WordToken n) k lt h =
     let w = some_word (text_of names n) n k (lookup (bytes_eq (text_of names n)) reserved_words) refl h in
     subst IsSomeWord w.1 (some_number names table g n lt (some_placed (text_of names n) w.0))
@@ -210,7 +210,7 @@ wild_text names (Punct b) k lt h = absurd (grind (arith, h))
 wild_text names BecomesToken k lt h = absurd (grind (arith, h))
 
 -- `_` is one name, also while names join the table
-pub wild_is_one : (old new : List (List ℕ)) → IsTable old → IsTable new → Grows old new → (t u : Token) (m k : Sym) → IsNumbered old t → IsNumbered new u → lexeme_of old t ≡ Wild m → lexeme_of new u ≡ Wild k → m.0 ≡ k.0
+pub wild_is_one : (old new : List (List ℕ)) → IsTable old → IsTable new → KeepsNames old new → (t u : Token) (m k : Sym) → IsNumbered old t → IsNumbered new u → lexeme_of old t ≡ Wild m → lexeme_of new u ≡ Wild k → m.0 ≡ k.0
 wild_is_one old new before after g t u m k a b h i =
     let x = wild_text old t m a h in
     let y = wild_text new u k b i in

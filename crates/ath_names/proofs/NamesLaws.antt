@@ -11,7 +11,7 @@ use Rattle.std.proofs.lemmas.Bool.{false_from_ne_true}
 use Rattle.std.specs.List.{position_or_len, IsDistinct}
 use Rattle.std.specs.Str.{bytes_eq}
 use Rattle.std.specs.Cmp.Lexicographic.{nat_list_eq_equiv}
-use Rattle.ath_names.specs.Names.{number_of, interned, Grows, IsTable}
+use Rattle.ath_names.specs.Names.{number_of, interned, KeepsNames, IsTable}
 use Rattle.ath_names.proofs.Positions.{IsFound, IsMissing, found_or_missing, found-push, missing-push}
 
 same : (text : List ℕ) → bytes_eq text text ≡ true
@@ -33,10 +33,10 @@ module _ (texts : List (List ℕ)) (text : List ℕ) where
       by (inr m) = ap (λ ts. number_of ts text) (absent m) ∙ missing-push (bytes_eq text) texts text m (same text) ∙ ap Some (sym m.at_end)
 
   -- interning only grows the table
-  pub Grows-interned : Grows texts (interned texts text)
-  Grows-interned = by (found_or_missing (bytes_eq text) texts)
+  pub KeepsNames-interned : KeepsNames texts (interned texts text)
+  KeepsNames-interned = by (found_or_missing (bytes_eq text) texts)
     where
-      by : IsFound (bytes_eq text) texts ⊎ IsMissing (bytes_eq text) texts → Grows texts (interned texts text)
+      by : IsFound (bytes_eq text) texts ⊎ IsMissing (bytes_eq text) texts → KeepsNames texts (interned texts text)
       by (inl f) = record { more = []; longer = there f ∙ sym (append-nil texts) }
       by (inr m) = record { more = text ∷ []; longer = absent m }
 
@@ -51,14 +51,14 @@ module _ (texts : List (List ℕ)) (text : List ℕ) where
         utf8 = All-push IsUtf8 texts text t.utf8 u;
       })
 
-pub Grows-refl : (texts : List (List ℕ)) → Grows texts texts
-Grows-refl texts = record { more = []; longer = sym (append-nil texts) }
+pub KeepsNames-refl : (texts : List (List ℕ)) → KeepsNames texts texts
+KeepsNames-refl texts = record { more = []; longer = sym (append-nil texts) }
 
-pub Grows-trans : {first second third : List (List ℕ)} → Grows first second → Grows second third → Grows first third
-Grows-trans {first} a b = record { more = a.more ++ b.more; longer = b.longer ∙ ap (λ ts. ts ++ b.more) a.longer ∙ append_assoc first a.more b.more }
+pub KeepsNames-trans : {first second third : List (List ℕ)} → KeepsNames first second → KeepsNames second third → KeepsNames first third
+KeepsNames-trans {first} a b = record { more = a.more ++ b.more; longer = b.longer ∙ ap (λ ts. ts ++ b.more) a.longer ∙ append_assoc first a.more b.more }
 
 -- a table that grows keeps the text of every number
-pub text_kept : {old new : List (List ℕ)} → Grows old new → (n : ℕ) → n < length old → slice_get new n ≡ slice_get old n
+pub text_kept : {old new : List (List ℕ)} → KeepsNames old new → (n : ℕ) → n < length old → slice_get new n ≡ slice_get old n
 text_kept {old} g n h = ap (λ ts. slice_get ts n) g.longer ∙ left old n h
   where
     left : (ts : List (List ℕ)) (k : ℕ) → k < length ts → slice_get (ts ++ g.more) k ≡ slice_get ts k
@@ -67,7 +67,7 @@ text_kept {old} g n h = ap (λ ts. slice_get ts n) g.longer ∙ left old n h
     left (t ∷ ts) (suc k) l = left ts k (omega arith)
 
 -- a table that grows keeps the number of every text
-pub number_kept : {old new : List (List ℕ)} → Grows old new → (text : List ℕ) (n : ℕ) → number_of old text ≡ Some n → number_of new text ≡ Some n
+pub number_kept : {old new : List (List ℕ)} → KeepsNames old new → (text : List ℕ) (n : ℕ) → number_of old text ≡ Some n → number_of new text ≡ Some n
 number_kept {old} g text n e = ap (λ ts. number_of ts text) g.longer ∙ on old g.more e
   where
     on : (ts more : List (List ℕ)) → number_of ts text ≡ Some n → number_of (ts ++ more) text ≡ Some n

@@ -16,7 +16,7 @@ abbrev pub interned : List (List ℕ) → List ℕ → List (List ℕ)
 interned texts text = if is_some (number_of texts text) then texts else texts ++ text ∷ []
 
 -- the table has at most grown: every number keeps its text, and every text its number
-pub record Grows (old new : List (List ℕ)) : Type 0 where
+pub record KeepsNames (old new : List (List ℕ)) : Type 0 where
   pub more : List (List ℕ)
   pub longer : new ≡ old ++ more
 

@@ -22,7 +22,7 @@ use Rattle.ath_syntax.specs.declared.node.PhraseId.{PhraseId}
 use Rattle.ath_syntax.specs.declared.node.SortText.{SortText}
 use Rattle.ath_syntax.specs.declared.node.Form.{Form}
 use Rattle.ath_syntax.specs.declared.node.Form.TheVariants as form
-use Rattle.ath_syntax.specs.Nodes.{Nodes, Grows}
+use Rattle.ath_syntax.specs.Nodes.{Nodes, KeepsNodes}
 use Rattle.ath_syntax.specs.Tree.{Binder, Phrase, name_at, variable_at, string_at, list_at, ascribe_at, apply_at, call_at, check_at, try_at, seq_at, pick_any_at, pick_witness_at, Phrases, phrases_deduce, Bindings, Clauses, Branches}
 use Rattle.ath_syntax.specs.Stands.{IsForm, is_name, is_variable, is_string, is_list, is_ascribe, is_apply, is_call, is_lambda, is_method, is_let, is_letrec, is_match, is_check, is_try, is_seq, is_assume, is_absurd, is_pick_any, is_pick_witness, is_induct, is_cases, is_conclude, IsPhrase, ArePhrases, AreBindings, AreClauses, AreBranches, otherwise_none, otherwise_some}
 use Rattle.ath_syntax.specs.Proper.{Proper, ProperPhrases}
@@ -98,7 +98,7 @@ module _ (s : Nodes) (p : Pos) (i : PhraseId) (x y : PhraseTree) (e : y ≡ x) (
   pick_any_form bs = is_pick_any held
 
 -- ---- forms with a part that was numbered first
-module _ (old new : Nodes) (p : Pos) (i : PhraseId) (x y : PhraseTree) (e : y ≡ x) (h : IsPhrase old i (phrase_of y)) (g : Grows old new) where
+module _ (old new : Nodes) (p : Pos) (i : PhraseId) (x y : PhraseTree) (e : y ≡ x) (h : IsPhrase old i (phrase_of y)) (g : KeepsNodes old new) where
   kept : IsPhrase new i (phrase_of x)
   kept = keep_phrase old new g i (phrase_of x) (held old p i x y e h)
 
@@ -134,7 +134,7 @@ module _ (old new : Nodes) (p : Pos) (i : PhraseId) (x y : PhraseTree) (e : y �
     pick_witness_form n = is_pick_witness kept second
 
 -- ---- forms whose last part stands behind its rows
-module _ (old new : Nodes) (p : Pos) (is : List (Sym × PhraseId)) (bs : Bindings) (h : AreBindings old is bs) (g : Grows old new) (i : PhraseId) (x y : PhraseTree) (e : y ≡ x) (k : IsPhrase new i (phrase_of y)) where
+module _ (old new : Nodes) (p : Pos) (is : List (Sym × PhraseId)) (bs : Bindings) (h : AreBindings old is bs) (g : KeepsNodes old new) (i : PhraseId) (x y : PhraseTree) (e : y ≡ x) (k : IsPhrase new i (phrase_of y)) where
   rows : AreBindings new is bs
   rows = keep_bindings old new g is bs h
 
@@ -147,5 +147,5 @@ module _ (old new : Nodes) (p : Pos) (is : List (Sym × PhraseId)) (bs : Binding
 pub check_form : (s : Nodes) (p : Pos) (is : List (PhraseId × PhraseId)) (bs : Branches) (o : Option PhraseTree) → o ≡ None → AreBranches s is bs → IsForm s p (form.Check is None) (check_at p bs (otherwise_of (option_map phrase_of o)))
 check_form s p is bs o e h = subst (λ (q : Option PhraseTree). IsForm s p (form.Check is None) (check_at p bs (otherwise_of (option_map phrase_of q)))) (sym e) (is_check h otherwise_none)
 
-pub check_else_form : (old new : Nodes) (p : Pos) (is : List (PhraseId × PhraseId)) (bs : Branches) (o : Option PhraseTree) (i : PhraseId) (x y : PhraseTree) → o ≡ Some x → AreBranches old is bs → Grows old new → y ≡ x → IsPhrase new i (phrase_of y) → IsForm new p (form.Check is (Some i)) (check_at p bs (otherwise_of (option_map phrase_of o)))
+pub check_else_form : (old new : Nodes) (p : Pos) (is : List (PhraseId × PhraseId)) (bs : Branches) (o : Option PhraseTree) (i : PhraseId) (x y : PhraseTree) → o ≡ Some x → AreBranches old is bs → KeepsNodes old new → y ≡ x → IsPhrase new i (phrase_of y) → IsForm new p (form.Check is (Some i)) (check_at p bs (otherwise_of (option_map phrase_of o)))
 check_else_form old new p is bs o i x y e h g f k = subst (λ (q : Option PhraseTree). IsForm new p (form.Check is (Some i)) (check_at p bs (otherwise_of (option_map phrase_of q)))) (sym e) (is_check (keep_branches old new g is bs h) (otherwise_some (held new p i x y f k)))

@@ -11,7 +11,7 @@ use Rattle.ath_numbering.specs.Trees.{pattern_of, patterns_of, pattern_step}
 use Rattle.ath_syntax.specs.declared.node.PatId.{PatId}
 use Rattle.ath_syntax.specs.declared.node.PatNode.{PatNode}
 use Rattle.ath_syntax.specs.declared.node.PatNode.TheVariants as node
-use Rattle.ath_syntax.specs.Nodes.{Nodes, Grows}
+use Rattle.ath_syntax.specs.Nodes.{Nodes, KeepsNodes}
 use Rattle.ath_syntax.specs.Fits.{IsPatternPart, PatternFits}
 use Rattle.ath_syntax.specs.Tree.{Pattern, any_pattern, name_pattern, string_pattern, list_pattern, list_of_pattern, app_pattern, some_pattern, Patterns}
 use Rattle.ath_syntax.specs.Stands.{IsPattern, IsPatternNode, pattern_is_any, pattern_is_name, pattern_is_string, pattern_is_list, pattern_is_list_of, pattern_is_app, pattern_is_some, ArePatterns, patterns_none, patterns_more}
@@ -64,7 +64,7 @@ module _ (nodes : List PatNode) (tree : PatternTree) where
   some_node k n e = by _ _ _ e (some_again k n) pattern_is_some
 
 -- the first part was numbered before the second
-pub list_of_node : (old new : Nodes) (tree p q r s : PatternTree) (i j : PatId) → tree ≡ ListOf p q → r ≡ p → s ≡ q → IsPattern old.patterns i (pattern_of r) → Grows old new → IsPattern new.patterns j (pattern_of s) → IsPatternNode new.patterns (node.ListOf i j) (pattern_of tree)
+pub list_of_node : (old new : Nodes) (tree p q r s : PatternTree) (i j : PatId) → tree ≡ ListOf p q → r ≡ p → s ≡ q → IsPattern old.patterns i (pattern_of r) → KeepsNodes old new → IsPattern new.patterns j (pattern_of s) → IsPatternNode new.patterns (node.ListOf i j) (pattern_of tree)
 list_of_node old new tree p q r s i j e f g h k l =
     let first = keep_pattern_number old new k i (pattern_of p) (subst (λ (z : PatternTree). IsPattern old.patterns i (pattern_of z)) f h) in
     let rest = subst (λ (z : PatternTree). IsPattern new.patterns j (pattern_of z)) g l in

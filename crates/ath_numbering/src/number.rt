@@ -4,7 +4,7 @@ ghost use Rattle.std.specs.Prelude.{Bool, IfOk, None, map, option_map};
 ghost use Rattle.ath_numbering.specs.Trees.{phrase_of, phrases_of, bindings_of, clauses_of, branches_of, otherwise_of};
 ghost use Rattle.ath_numbering.specs.Trees.{closure_at, hypothesis_at, clauses_at, let_phrase};
 ghost use Rattle.ath_syntax.specs.Proper.{Proper, ProperPhrases, ProperBindings, ProperClauses, ProperBranches};
-ghost use Rattle.ath_syntax.specs.Nodes.{Grows};
+ghost use Rattle.ath_syntax.specs.Nodes.{KeepsNodes};
 ghost use Rattle.ath_syntax.specs.Stands.{IsForm, IsPhrase, ArePhrases, AreBindings, AreClauses, AreBranches};
 ghost use Rattle.ath_syntax.specs.Tree.{ascribe_at, apply_at, call_at, check_at, pick_any_at, pick_witness_at};
 
@@ -26,7 +26,7 @@ pub fn number_phrase(
 ) -> Result<PhraseId, AllocError>
     requires { Proper (phrase_of tree) }
     ensures stands { IfOk result (λ i. IsPhrase phrases.new i (phrase_of tree)) }
-    ensures kept { Grows phrases.old phrases.new }
+    ensures kept { KeepsNodes phrases.old phrases.new }
 {
     let deduction = is_deduction(&tree);
     let (pos, form) = placed_form(alloc, phrases, tree)?;
@@ -48,7 +48,7 @@ fn placed_form(
 ) -> Result<(Pos, Form), AllocError>
     requires { Proper (phrase_of tree) }
     ensures stands { IfOk result (λ r. IsForm phrases.new r.0 r.1 (phrase_of tree)) }
-    ensures kept { Grows phrases.old phrases.new }
+    ensures kept { KeepsNodes phrases.old phrases.new }
 {
     match tree {
         PhraseTree::Name(pos, name) => Ok((pos, Form::Name(name))),
@@ -91,7 +91,7 @@ fn ascribe(
 ) -> Result<(Pos, Form), AllocError>
     requires { Proper (ascribe_at pos (phrase_of body) sort) }
     ensures stands { IfOk result (λ r. IsForm phrases.new r.0 r.1 (ascribe_at pos (phrase_of body) sort)) }
-    ensures kept { Grows phrases.old phrases.new }
+    ensures kept { KeepsNodes phrases.old phrases.new }
 {
     let body = number_phrase(alloc, phrases, body.into_inner())?;
     Ok((pos, Form::Ascribe(body, sort)))
@@ -108,7 +108,7 @@ fn apply(
 ) -> Result<(Pos, Form), AllocError>
     requires { Proper (apply_at pos (phrase_of head) (phrases_of (map phrase_of args))) }
     ensures stands { IfOk result (λ r. IsForm phrases.new r.0 r.1 (apply_at pos (phrase_of head) (phrases_of (map phrase_of args)))) }
-    ensures kept { Grows phrases.old phrases.new }
+    ensures kept { KeepsNodes phrases.old phrases.new }
 {
     let head = number_phrase(alloc, phrases, head.into_inner())?;
     let args = number_all(alloc, phrases, args)?;
@@ -126,7 +126,7 @@ fn call(
 ) -> Result<(Pos, Form), AllocError>
     requires { Proper (call_at pos (phrase_of head) (phrases_of (map phrase_of args))) }
     ensures stands { IfOk result (λ r. IsForm phrases.new r.0 r.1 (call_at pos (phrase_of head) (phrases_of (map phrase_of args)))) }
-    ensures kept { Grows phrases.old phrases.new }
+    ensures kept { KeepsNodes phrases.old phrases.new }
 {
     let head = number_phrase(alloc, phrases, head.into_inner())?;
     let args = number_all(alloc, phrases, args)?;
@@ -146,7 +146,7 @@ fn closure(
 ) -> Result<(Pos, Form), AllocError>
     requires { Proper (closure_at word pos names (phrase_of body)) }
     ensures stands { IfOk result (λ r. IsForm phrases.new r.0 r.1 (closure_at word pos names (phrase_of body))) }
-    ensures kept { Grows phrases.old phrases.new }
+    ensures kept { KeepsNodes phrases.old phrases.new }
 {
     let body = number_phrase(alloc, phrases, body.into_inner())?;
     match word {
@@ -168,7 +168,7 @@ fn bind(
 ) -> Result<(Pos, Form), AllocError>
     requires { Proper (let_phrase word pos (bindings_of (map (λ b. (b.0, phrase_of b.1)) rows)) (phrase_of body)) }
     ensures stands { IfOk result (λ r. IsForm phrases.new r.0 r.1 (let_phrase word pos (bindings_of (map (λ b. (b.0, phrase_of b.1)) rows)) (phrase_of body))) }
-    ensures kept { Grows phrases.old phrases.new }
+    ensures kept { KeepsNodes phrases.old phrases.new }
 {
     let rows = number_bindings(alloc, phrases, rows)?;
     let body = number_phrase(alloc, phrases, body.into_inner())?;
@@ -191,7 +191,7 @@ fn choose(
 ) -> Result<(Pos, Form), AllocError>
     requires { Proper (clauses_at word pos (phrase_of subject) (clauses_of (map (λ c. (c.0, phrase_of c.1)) clauses))) }
     ensures stands { IfOk result (λ r. IsForm phrases.new r.0 r.1 (clauses_at word pos (phrase_of subject) (clauses_of (map (λ c. (c.0, phrase_of c.1)) clauses)))) }
-    ensures kept { Grows phrases.old phrases.new }
+    ensures kept { KeepsNodes phrases.old phrases.new }
 {
     let subject = number_phrase(alloc, phrases, subject.into_inner())?;
     let clauses = number_clauses(alloc, phrases, clauses)?;
@@ -213,7 +213,7 @@ fn check(
 ) -> Result<(Pos, Form), AllocError>
     requires { Proper (check_at pos (branches_of (map (λ b. (phrase_of b.0, phrase_of b.1)) rows)) (otherwise_of (option_map phrase_of otherwise))) }
     ensures stands { IfOk result (λ r. IsForm phrases.new r.0 r.1 (check_at pos (branches_of (map (λ b. (phrase_of b.0, phrase_of b.1)) rows)) (otherwise_of (option_map phrase_of otherwise)))) }
-    ensures kept { Grows phrases.old phrases.new }
+    ensures kept { KeepsNodes phrases.old phrases.new }
 {
     let rows = number_branches(alloc, phrases, rows)?;
     match otherwise {
@@ -239,7 +239,7 @@ fn suppose(
 ) -> Result<(Pos, Form), AllocError>
     requires { Proper (hypothesis_at word pos name (phrase_of first) (phrase_of second)) }
     ensures stands { IfOk result (λ r. IsForm phrases.new r.0 r.1 (hypothesis_at word pos name (phrase_of first) (phrase_of second))) }
-    ensures kept { Grows phrases.old phrases.new }
+    ensures kept { KeepsNodes phrases.old phrases.new }
 {
     let first = number_phrase(alloc, phrases, first.into_inner())?;
     let second = number_phrase(alloc, phrases, second.into_inner())?;
@@ -261,7 +261,7 @@ fn pick_any(
 ) -> Result<(Pos, Form), AllocError>
     requires { Proper (pick_any_at pos names (phrase_of body)) }
     ensures stands { IfOk result (λ r. IsForm phrases.new r.0 r.1 (pick_any_at pos names (phrase_of body))) }
-    ensures kept { Grows phrases.old phrases.new }
+    ensures kept { KeepsNodes phrases.old phrases.new }
 {
     let body = number_phrase(alloc, phrases, body.into_inner())?;
     Ok((pos, Form::PickAny(names, body)))
@@ -279,7 +279,7 @@ fn pick_witness(
 ) -> Result<(Pos, Form), AllocError>
     requires { Proper (pick_witness_at pos name (phrase_of first) (phrase_of second)) }
     ensures stands { IfOk result (λ r. IsForm phrases.new r.0 r.1 (pick_witness_at pos name (phrase_of first) (phrase_of second))) }
-    ensures kept { Grows phrases.old phrases.new }
+    ensures kept { KeepsNodes phrases.old phrases.new }
 {
     let first = number_phrase(alloc, phrases, first.into_inner())?;
     let second = number_phrase(alloc, phrases, second.into_inner())?;
@@ -295,7 +295,7 @@ fn number_all(
 ) -> Result<Items<PhraseId>, AllocError>
     requires { ProperPhrases None (phrases_of (map phrase_of trees)) }
     ensures stands { IfOk result (λ is. ArePhrases phrases.new is (phrases_of (map phrase_of trees))) }
-    ensures kept { Grows phrases.old phrases.new }
+    ensures kept { KeepsNodes phrases.old phrases.new }
 {
     let mut trees = trees;
     let mut numbers = Vec::new(alloc);
@@ -314,7 +314,7 @@ fn number_bindings(
 ) -> Result<Items<(Sym, PhraseId)>, AllocError>
     requires { ProperBindings None (bindings_of (map (λ b. (b.0, phrase_of b.1)) rows)) }
     ensures stands { IfOk result (λ is. AreBindings phrases.new is (bindings_of (map (λ b. (b.0, phrase_of b.1)) rows))) }
-    ensures kept { Grows phrases.old phrases.new }
+    ensures kept { KeepsNodes phrases.old phrases.new }
 {
     let mut rows = rows;
     let mut numbers = Vec::new(alloc);
@@ -333,7 +333,7 @@ fn number_clauses(
 ) -> Result<Items<(PatId, PhraseId)>, AllocError>
     requires { (d : Bool) × ProperClauses d (clauses_of (map (λ c. (c.0, phrase_of c.1)) rows)) }
     ensures stands { IfOk result (λ is. AreClauses phrases.new is (clauses_of (map (λ c. (c.0, phrase_of c.1)) rows))) }
-    ensures kept { Grows phrases.old phrases.new }
+    ensures kept { KeepsNodes phrases.old phrases.new }
 {
     let mut rows = rows;
     let mut numbers = Vec::new(alloc);
@@ -354,7 +354,7 @@ fn number_branches(
 ) -> Result<Items<(PhraseId, PhraseId)>, AllocError>
     requires { (d : Bool) × ProperBranches d (branches_of (map (λ b. (phrase_of b.0, phrase_of b.1)) rows)) }
     ensures stands { IfOk result (λ is. AreBranches phrases.new is (branches_of (map (λ b. (phrase_of b.0, phrase_of b.1)) rows))) }
-    ensures kept { Grows phrases.old phrases.new }
+    ensures kept { KeepsNodes phrases.old phrases.new }
 {
     let mut rows = rows;
     let mut numbers = Vec::new(alloc);

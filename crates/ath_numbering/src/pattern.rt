@@ -3,7 +3,7 @@
 ghost use Rattle.std.specs.Prelude.{IfOk, map};
 ghost use Rattle.ath_numbering.specs.Trees.{pattern_of, patterns_of};
 ghost use Rattle.ath_syntax.specs.Proper.{ProperPattern, ProperPatterns};
-ghost use Rattle.ath_syntax.specs.Nodes.{Grows};
+ghost use Rattle.ath_syntax.specs.Nodes.{KeepsNodes};
 ghost use Rattle.ath_syntax.specs.Stands.{IsPattern, IsPatternNode, ArePatterns};
 
 use crate::tree::PatternTree;
@@ -20,7 +20,7 @@ pub fn number_pattern(
 ) -> Result<PatId, AllocError>
     requires { ProperPattern (pattern_of tree) }
     ensures stands { IfOk result (λ i. IsPattern phrases.new.patterns i (pattern_of tree)) }
-    ensures kept { Grows phrases.old phrases.new }
+    ensures kept { KeepsNodes phrases.old phrases.new }
 {
     let node = pattern_node(alloc, phrases, tree)?;
     let number = phrases.add_pat(node)?;
@@ -37,7 +37,7 @@ fn pattern_node(
 ) -> Result<PatNode, AllocError>
     requires { ProperPattern (pattern_of tree) }
     ensures stands { IfOk result (λ n. IsPatternNode phrases.new.patterns n (pattern_of tree)) }
-    ensures kept { Grows phrases.old phrases.new }
+    ensures kept { KeepsNodes phrases.old phrases.new }
 {
     match tree {
         PatternTree::Any => Ok(PatNode::Any),
@@ -69,7 +69,7 @@ fn number_patterns(
 ) -> Result<Items<PatId>, AllocError>
     requires { ProperPatterns (patterns_of (map pattern_of trees)) }
     ensures stands { IfOk result (λ is. ArePatterns phrases.new.patterns is (patterns_of (map pattern_of trees))) }
-    ensures kept { Grows phrases.old phrases.new }
+    ensures kept { KeepsNodes phrases.old phrases.new }
 {
     let mut trees = trees;
     let mut numbers = Vec::new(alloc);

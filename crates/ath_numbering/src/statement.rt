@@ -3,7 +3,7 @@
 ghost use Rattle.std.specs.Prelude.{IfOk};
 ghost use Rattle.ath_numbering.specs.Trees.{statement_of, directive_of};
 ghost use Rattle.ath_syntax.specs.Proper.{ProperStatement, ProperDirective};
-ghost use Rattle.ath_syntax.specs.Nodes.{Grows};
+ghost use Rattle.ath_syntax.specs.Nodes.{KeepsNodes};
 ghost use Rattle.ath_syntax.specs.Stands.{IsStatement, IsDirective};
 
 use crate::number::number_phrase;
@@ -20,7 +20,7 @@ pub fn number_directive(
 ) -> Result<Directive, AllocError>
     requires { ProperDirective (directive_of tree) }
     ensures stands { IfOk result (λ d. IsDirective phrases.new d (directive_of tree)) }
-    ensures kept { Grows phrases.old phrases.new }
+    ensures kept { KeepsNodes phrases.old phrases.new }
 {
     let DirectiveTree { pos, statement } = tree;
     let what = number_statement(alloc, phrases, statement)?;
@@ -35,7 +35,7 @@ fn number_statement(
 ) -> Result<What, AllocError>
     requires { ProperStatement (statement_of tree) }
     ensures stands { IfOk result (λ w. IsStatement phrases.new w (statement_of tree)) }
-    ensures kept { Grows phrases.old phrases.new }
+    ensures kept { KeepsNodes phrases.old phrases.new }
 {
     match tree {
         StatementTree::Domain(name, vars) => Ok(What::Domain(name, vars)),

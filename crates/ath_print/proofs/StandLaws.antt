@@ -10,7 +10,7 @@ use Rattle.ath_print.specs.declared.fault.FaultArg.TheVariants.{Sent, Term, Sort
 use Rattle.ath_print.specs.declared.event.Event.{Event as Told}
 use Rattle.ath_print.specs.declared.event.Event.TheVariants.{Domain, Symbols, Assertion, Theorem, Shown, Error, Fuel}
 use Rattle.ath_print.specs.Events.{Refusal, Event, sentence_named, term_named, asserted, proved, shown, refused}
-use Rattle.ath_print.specs.Stands.{argument_of, IsArgumentIn, refusal_of, IsFaultIn, IsFault, event_of, IsEventIn, IsEvent}
+use Rattle.ath_print.specs.Stands.{argument_of, IsArgumentIn, refusal_of, IsFaultIn, IsRefusal, event_of, IsEventIn, IsEvent}
 
 module _ (s u : Trees) (g : Grows s u) where
   argument_in-kept : (a : FaultArg) → IsArgumentIn s a → IsArgumentIn u a
@@ -42,7 +42,7 @@ module _ (s u : Trees) (g : Grows s u) where
   pub refusal-kept : (f : Fault) → IsFaultIn s f → refusal_of u f ≡ refusal_of s f
   refusal-kept f h = ap (λ args. record { kind = f.kind; args = args }) (arguments-kept f.args h)
 
-  pub fault-kept : (f : Fault) (why : Refusal) → IsFault s f why → IsFault u f why
+  pub fault-kept : (f : Fault) (why : Refusal) → IsRefusal s f why → IsRefusal u f why
   fault-kept f why h = (fault_in-kept f h.0, refusal-kept f h.0 ∙ h.1)
 
   pub event_in-kept : (e : Told) → IsEventIn s e → IsEventIn u e

@@ -33,8 +33,8 @@ refusal_of s f = record { kind = f.kind; args = map (argument_of s) f.args }
 abbrev pub IsFaultIn : Trees → Fault → Type 0
 IsFaultIn s f = All (IsArgumentIn s) f.args
 
-abbrev pub IsFault : Trees → Fault → Refusal → Type 0
-IsFault s f why = IsFaultIn s f × (refusal_of s f ≡ why)
+abbrev pub IsRefusal : Trees → Fault → Refusal → Type 0
+IsRefusal s f why = IsFaultIn s f × (refusal_of s f ≡ why)
 
 abbrev pub event_of : Trees → Told → Event
 event_of s (Domain n) = domain_added n

@@ -10,8 +10,8 @@ use Rattle.ath_syntax.specs.declared.place.Pos.{Pos}
 use Rattle.ath_grammar.specs.declared.lexeme.Lexeme as grammar
 use Rattle.ath_grammar.specs.declared.lexeme.Lexeme.TheVariants.{Wild, SomeOf}
 use Rattle.ath_grammar.specs.Tokens.{Placed, at}
-use Rattle.ath_names.specs.Names.{number_of, interned, Grows, IsTable, first_names}
-use Rattle.ath_names.proofs.NamesLaws.{number_of-interned, Grows-interned, IsTable-interned, Grows-refl, Grows-trans, text_of_number}
+use Rattle.ath_names.specs.Names.{number_of, interned, KeepsNames, IsTable, first_names}
+use Rattle.ath_names.proofs.NamesLaws.{number_of-interned, KeepsNames-interned, IsTable-interned, KeepsNames-refl, KeepsNames-trans, text_of_number}
 use Rattle.ath_tokens.specs.declared.tokens.Token.{Token}
 use Rattle.ath_tokens.specs.declared.tokens.Token.TheVariants.{Word, Var, SortVar, Str, Punct, Becomes}
 use Rattle.ath_tokens.specs.Cut.{Cut, found, ended, fault, next_of, place_of, names_with}
@@ -28,13 +28,13 @@ use Rattle.ath_reader.proofs.Carried.{reads_snoc}
 
 -- the names with those of a token
 module _ (names : List (List ℕ)) where
-  names_grow : (l : Lexeme) → Grows names (names_with names l)
-  names_grow (word text) = Grows-interned names text
-  names_grow (var text index) = Grows-interned names text
-  names_grow (sort_var text) = Grows-interned names text
-  names_grow (str bytes) = Grows-refl names
-  names_grow (punct b) = Grows-refl names
-  names_grow becomes = Grows-refl names
+  names_grow : (l : Lexeme) → KeepsNames names (names_with names l)
+  names_grow (word text) = KeepsNames-interned names text
+  names_grow (var text index) = KeepsNames-interned names text
+  names_grow (sort_var text) = KeepsNames-interned names text
+  names_grow (str bytes) = KeepsNames-refl names
+  names_grow (punct b) = KeepsNames-refl names
+  names_grow becomes = KeepsNames-refl names
 
   names_table : IsTable names → (l : Lexeme) → Named IsAscii l → IsTable (names_with names l)
   names_table table (word text) h = IsTable-interned names text table (IsUtf8-from_ascii text h)
@@ -88,8 +88,8 @@ module _ (file : ℕ) (text : List ℕ) where
       token_bytes : (from < to) × (to ≤ length text)
       token_bytes = (omega (arith, longest.gap.up_to, longest.some), longest.within)
 
-      token_grow : Grows names known
-      token_grow = subst (Grows names) c.joined (names_grow names c.token)
+      token_grow : KeepsNames names known
+      token_grow = subst (KeepsNames names) c.joined (names_grow names c.token)
 
       token_table : IsTable names → IsTable known
       token_table table = subst IsTable c.joined (names_table names table c.token (ascii_named c.token (take (to - c.start) (drop c.start text)) longest.spelled))
@@ -118,13 +118,13 @@ module _ (file : ℕ) (text : List ℕ) where
       omega (arith, b.0, rest.0, rest.1)
 
   -- the names grow
-  pub reads_grow : (names : List (List ℕ)) (from : ℕ) (ts : List Placed) (known : List (List ℕ)) (to : ℕ) → Reads file text names from ts known to → Grows names known
-  reads_grow names from [] known to reads_none = Grows-refl names
-  reads_grow names from (t ∷ ts) known to (reads_more {known = next} {mid = mid} e r) = Grows-trans (token_grow names from t next mid e) (reads_grow next mid ts known to r)
+  pub reads_grow : (names : List (List ℕ)) (from : ℕ) (ts : List Placed) (known : List (List ℕ)) (to : ℕ) → Reads file text names from ts known to → KeepsNames names known
+  reads_grow names from [] known to reads_none = KeepsNames-refl names
+  reads_grow names from (t ∷ ts) known to (reads_more {known = next} {mid = mid} e r) = KeepsNames-trans (token_grow names from t next mid e) (reads_grow next mid ts known to r)
 
   -- those of what comes next are more still
-  pub past_grows : (names : List (List ℕ)) (from : ℕ) (ts : List Placed) (known : List (List ℕ)) (to : ℕ) (next : Ahead) → Reads file text names from ts known to → ahead file text known to ≡ next → Grows names (names_past next known)
-  past_grows names from ts known to (a_token t last end) r e = Grows-trans (reads_grow names from ts known to r) (token_grow known to t last end e)
+  pub past_grows : (names : List (List ℕ)) (from : ℕ) (ts : List Placed) (known : List (List ℕ)) (to : ℕ) (next : Ahead) → Reads file text names from ts known to → ahead file text known to ≡ next → KeepsNames names (names_past next known)
+  past_grows names from ts known to (a_token t last end) r e = KeepsNames-trans (reads_grow names from ts known to r) (token_grow known to t last end e)
   past_grows names from ts known to the_end r e = reads_grow names from ts known to r
   past_grows names from ts known to (a_fault kind byte) r e = reads_grow names from ts known to r
 
@@ -178,41 +178,41 @@ underscore_wild n = refl
 -- names that have the word `_`, by its number
 module _ (last : List (List ℕ)) (table : IsTable last) (wild : Sym) (within : wild.0 < length last) (is_wild : lexeme_of last (Word wild) ≡ Wild wild) where
   -- what is known of tokens while the names before grow to these
-  module _ (names : List (List ℕ)) (before : IsTable names) (first : Grows first_names names) (grow : Grows names last) where
+  module _ (names : List (List ℕ)) (before : IsTable names) (first : KeepsNames first_names names) (grow : KeepsNames names last) where
     known_lexeme : (p : Pos) (t : Token) → IsNumbered names t → (l : grammar.Lexeme) → lexeme_of names t ≡ l → IsKnown wild (at p l)
     known_lexeme p t n (Wild m) e = wild_is_one names last before table grow t (Word wild) m wild n within e is_wild
     known_lexeme p t n (SomeOf k) e = some_words names before first t k n e
     known_lexeme p t n l e = tt
 
   module _ (file : ℕ) (text : List ℕ) where
-    known_token : (names : List (List ℕ)) (from : ℕ) (t : Placed) (known : List (List ℕ)) (to : ℕ) → IsTable known → Grows first_names known → Grows known last → Comes file text names from t known to → IsKnown wild t
+    known_token : (names : List (List ℕ)) (from : ℕ) (t : Placed) (known : List (List ℕ)) (to : ℕ) → IsTable known → KeepsNames first_names known → KeepsNames known last → Comes file text names from t known to → IsKnown wild t
     known_token names from t known to after first grow c =
         let s = seen_is names c.token in
         let p = place_of file text c.start in
         let its = names_with names c.token in
         subst (IsKnown wild) c.placed
-        (subst (λ (ks : List (List ℕ)). IsTable ks → Grows first_names ks → Grows ks last → IsKnown wild (at p (seen_as ks c.token))) c.joined
+        (subst (λ (ks : List (List ℕ)). IsTable ks → KeepsNames first_names ks → KeepsNames ks last → IsKnown wild (at p (seen_as ks c.token))) c.joined
         (λ a f g. known_lexeme its a f g p (token_as its c.token) s.0 (seen_as its c.token) s.1) after first grow)
 
-    all_known : (names : List (List ℕ)) (from : ℕ) (ts : List Placed) (known : List (List ℕ)) (to : ℕ) → IsTable names → Grows first_names names → Reads file text names from ts known to → Grows known last → Known wild ts
+    all_known : (names : List (List ℕ)) (from : ℕ) (ts : List Placed) (known : List (List ℕ)) (to : ℕ) → IsTable names → KeepsNames first_names names → Reads file text names from ts known to → KeepsNames known last → Known wild ts
     all_known names from [] known to before first reads_none grow = tt
     all_known names from (t ∷ ts) known to before first (reads_more {known = next} {mid = mid} e r) grow =
         let after = token_table file text names from t next mid e before in
-        let more = Grows-trans first (token_grow file text names from t next mid e) in (
-          known_token names from t next mid after more (Grows-trans (reads_grow file text next mid ts known to r) grow) (comes file text names from t next mid e),
+        let more = KeepsNames-trans first (token_grow file text names from t next mid e) in (
+          known_token names from t next mid after more (KeepsNames-trans (reads_grow file text next mid ts known to r) grow) (comes file text names from t next mid e),
           all_known next mid ts known to after more r grow,
         )
 
 module _ (file : ℕ) (text : List ℕ) (names : List (List ℕ)) (from : ℕ) (ts : List Placed) (known : List (List ℕ)) (to : ℕ) where
   -- tokens that are read: all `_` have one number, and `some-..` the numbers of these words
-  pub reads_known : IsTable names → Grows first_names names → Reads file text names from ts known to → (wild : Sym) × Known wild ts
+  pub reads_known : IsTable names → KeepsNames first_names names → Reads file text names from ts known to → (wild : Sym) × Known wild ts
   reads_known table first r =
       let last = interned known underscore in
       let wild = number_in last underscore in
       let w = numbered last underscore wild (interned_number known underscore) in
       let after : IsTable last = IsTable-interned known underscore (reads_table file text names from ts known to table r) underscore_utf8 in
-      (wild, all_known last after wild w.0 (w.1 ∙ underscore_wild wild) file text names from ts known to table first r (Grows-interned known underscore))
+      (wild, all_known last after wild w.0 (w.1 ∙ underscore_wild wild) file text names from ts known to table first r (KeepsNames-interned known underscore))
 
 -- and so with the token that comes next
-pub ahead_known : (file : ℕ) (text : List ℕ) (names : List (List ℕ)) (from : ℕ) (ts : List Placed) (known : List (List ℕ)) (to : ℕ) (t : Placed) (last : List (List ℕ)) (end : ℕ) → IsTable names → Grows first_names names → Reads file text names from ts known to → ahead file text known to ≡ a_token t last end → (wild : Sym) × Known wild (ts ++ t ∷ [])
+pub ahead_known : (file : ℕ) (text : List ℕ) (names : List (List ℕ)) (from : ℕ) (ts : List Placed) (known : List (List ℕ)) (to : ℕ) (t : Placed) (last : List (List ℕ)) (end : ℕ) → IsTable names → KeepsNames first_names names → Reads file text names from ts known to → ahead file text known to ≡ a_token t last end → (wild : Sym) × Known wild (ts ++ t ∷ [])
 ahead_known file text names from ts known to t last end table first r e = reads_known file text names from (ts ++ t ∷ []) last end table first (reads_snoc file text r e)

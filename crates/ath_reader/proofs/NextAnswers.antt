@@ -21,7 +21,7 @@ AnswersNext r from names s (Ok (Some d)) new names' s' =
     (t : DirectiveTree) × (to : ℕ)
     × IsDirective s' d t
     × IsNext r names from (whole t to names')
-    × syntax.Grows s s'
+    × syntax.KeepsNodes s s'
     × (new ≡ record r { progress = reached to })
 AnswersNext r from names s (Err e) new names' s' =
     (Wants e names names' s s' ⊎ (IsNext r names from (stopped e names') × (s' ≡ s)))
@@ -42,7 +42,7 @@ module _ (r : Reading) (from : ℕ) (names : List (List ℕ)) (s : syntax.Nodes)
     pub none_of_answer : result ≡ Ok None → IsNext r names from ended × (new ≡ record r { progress = reached (length r.text) }) × (names' ≡ names) × (s' ≡ s)
     none_of_answer e = subst (λ (o : Result (Option Directive) SyntaxError). AnswersNext r from names s o new names' s') e (next_of_answer result h)
 
-    pub whole_of_answer : (d : Directive) → result ≡ Ok (Some d) → (t : DirectiveTree) × (to : ℕ) × IsDirective s' d t × IsNext r names from (whole t to names') × syntax.Grows s s' × (new ≡ record r { progress = reached to })
+    pub whole_of_answer : (d : Directive) → result ≡ Ok (Some d) → (t : DirectiveTree) × (to : ℕ) × IsDirective s' d t × IsNext r names from (whole t to names') × syntax.KeepsNodes s s' × (new ≡ record r { progress = reached to })
     whole_of_answer d e = subst (λ (o : Result (Option Directive) SyntaxError). AnswersNext r from names s o new names' s') e (next_of_answer result h)
 
     pub stopped_of_answer : (x : SyntaxError) → result ≡ Err x → (Wants x names names' s s' ⊎ (IsNext r names from (stopped x names') × (s' ≡ s))) × (new ≡ record r { progress = refused x })

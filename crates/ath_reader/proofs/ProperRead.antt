@@ -3,7 +3,7 @@ use Rattle.std.proofs.Common.{◌≡◌, ℕ, ◌≤◌, List, [], ◌∷◌, �
 use Rattle.ath_syntax.specs.Tree.{DirectiveTree}
 use Rattle.ath_grammar.specs.Tokens.{Placed}
 use Rattle.ath_grammar.specs.Directives.{SpellsDirective}
-use Rattle.ath_names.specs.Names.{IsTable, Grows, first_names}
+use Rattle.ath_names.specs.Names.{IsTable, KeepsNames, first_names}
 use Rattle.ath_syntax.specs.Proper.{ProperDirective}
 use Rattle.ath_grammar.proofs.ProperRead.{spelled_is_proper}
 use Rattle.ath_reader.specs.declared.limits.TheConstants.{MOST_BYTES}
@@ -16,7 +16,7 @@ append_nil : (ts : List Placed) → ts ++ [] ≡ ts
 append_nil [] = refl
 append_nil (t ∷ ts) = subst (λ (us : List Placed). t ∷ ts ++ [] ≡ t ∷ us) (append_nil ts) refl
 
-module _ (file : ℕ) (text : List ℕ) (names : List (List ℕ)) (from : ℕ) (ts : List Placed) (known : List (List ℕ)) (to : ℕ) (few : length text ≤ MOST_BYTES) (table : IsTable names) (first : Grows first_names names) (read : Reads file text names from ts known to) (d : DirectiveTree) where
+module _ (file : ℕ) (text : List ℕ) (names : List (List ℕ)) (from : ℕ) (ts : List Placed) (known : List (List ℕ)) (to : ℕ) (few : length text ≤ MOST_BYTES) (table : IsTable names) (first : KeepsNames first_names names) (read : Reads file text names from ts known to) (d : DirectiveTree) where
   no_more : SpellsDirective true (ts ++ []) d [] → ProperDirective d
   no_more h = let k = reads_known file text names from ts known to table first read in
       spelled_is_proper ts d [] (subst (λ (us : List Placed). SpellsDirective true us d []) (append_nil ts) h) (omega (arith, few, reads_short file text names from ts known to read)) k.0 k.1

@@ -11,8 +11,8 @@ use Rattle.ath_grammar.specs.Levels.{take_class, take_all, depth_of, depth}
 use Rattle.ath_grammar.specs.Machine.{Outcome, over, took, refused as no_way, advance, settle}
 use Rattle.ath_grammar.specs.Directives.{directive_items}
 use Rattle.ath_grammar.specs.Laws.{after}
-use Rattle.ath_names.specs.Names.{Grows}
-use Rattle.ath_names.proofs.NamesLaws.{Grows-refl, Grows-trans}
+use Rattle.ath_names.specs.Names.{KeepsNames}
+use Rattle.ath_names.proofs.NamesLaws.{KeepsNames-refl, KeepsNames-trans}
 use Rattle.ath_tokens.specs.Cut.{place_of}
 use Rattle.ath_syntax.specs.declared.place.Pos.{Pos}
 use Rattle.ath_tokens.specs.declared.tokens.LexError.{LexError}
@@ -79,8 +79,8 @@ snoc_some : (ts : List Placed) (t : Placed) → ts ++ t ∷ [] ≡ [] → ⊥
 snoc_some [] t e = absurd (grind (arith, e))
 snoc_some (x ∷ ts) t e = absurd (grind (arith, e))
 
-same_grows : (known known' : List (List ℕ)) → known' ≡ known → Grows known known'
-same_grows known known' k = subst (Grows known) (sym k) (Grows-refl known)
+same_grows : (known known' : List (List ℕ)) → known' ≡ known → KeepsNames known known'
+same_grows known known' k = subst (KeepsNames known) (sym k) (KeepsNames-refl known)
 
 has_begun : (b : Bool) → (b ≡ false → true ≡ false) → b ≡ true
 has_begun true f = refl
@@ -176,8 +176,8 @@ module _ (old : Cutting) (names : List (List ℕ)) (c : Cutting) (known : List (
   rejects p l known' to o kind s h = absurd h
 
   -- memory is wanted
-  pub turned_wants : (new : Cutting) (known' : List (List ℕ)) (e : SyntaxError) → Grows known known' → new.text ≡ old.text → new.file ≡ old.file → e.kind ≡ Memory → ReadsTree old names (Err e) new known'
-  turned_wants new known' e g t f m = (t, f, inl (m, Grows-trans (reads_grow old.file old.text names old.at carried.tokens known c.at carried.read) g))
+  pub turned_wants : (new : Cutting) (known' : List (List ℕ)) (e : SyntaxError) → KeepsNames known known' → new.text ≡ old.text → new.file ≡ old.file → e.kind ≡ Memory → ReadsTree old names (Err e) new known'
+  turned_wants new known' e g t f m = (t, f, inl (m, KeepsNames-trans (reads_grow old.file old.text names old.at carried.tokens known c.at carried.read) g))
 
   refuses_token : (p : Pos) (l : Lexeme) (new : Cutting) (known' : List (List ℕ)) (e : SyntaxError) → next_of c known ≡ a_token (at p l) known' new.at → new.text ≡ c.text → new.file ≡ c.file → e.pos ≡ p → Rejects (outcome b (Token l p)) (depth_of (take_class (class_of_lexeme l) b.levels)) e.kind → ReadsTree old names (Err e) new known'
   unfolding front

@@ -27,8 +27,8 @@ pub record Finds (r : Reading) (names : List (List ℕ)) (from : ℕ) (s : synta
 -- want of memory leaves names and phrases that are there as they were
 pub record Wants (e : SyntaxError) (names names' : List (List ℕ)) (s s' : syntax.Nodes) : Type 0 where
   pub kind : e.kind ≡ Memory
-  pub names_kept : table.Grows names names'
-  pub phrases_kept : syntax.Grows s s'
+  pub names_kept : table.KeepsNames names names'
+  pub phrases_kept : syntax.KeepsNodes s s'
 
 -- What a reader answers from its progress, what it has come to then, and the names and phrases after it. A refusal is
 -- given again, and leaves the phrases as they were.
@@ -42,7 +42,7 @@ Answers r (reached from) names s (Ok None) new names' s' =
     × (names' ≡ names)
     × (s' ≡ s)
 Answers r (reached from) names s (Ok (Some d)) new names' s' =
-    (to : ℕ) × Finds r names from s' d to names' × syntax.Grows s s' × (new ≡ record r { progress = reached to })
+    (to : ℕ) × Finds r names from s' d to names' × syntax.KeepsNodes s s' × (new ≡ record r { progress = reached to })
 Answers r (reached from) names s (Err e) new names' s' =
     (Wants e names names' s s' ⊎ (Refuses r names from e names' × (s' ≡ s)))
     × (new ≡ record r { progress = refused e })

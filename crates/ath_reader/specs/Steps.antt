@@ -51,7 +51,7 @@ abbrev pub Looks : Cutting → List (List ℕ) → Result Seen SyntaxError → C
 Looks old names (Ok (Token l p)) new names' = (next_of old names ≡ a_token (at p l) names' new.at) × (old.at < new.at) × (new.at ≤ length old.text) × (new ≡ record old { at = new.at })
 Looks old names (Ok End) new names' = (next_of old names ≡ the_end) × (names' ≡ names) × (new ≡ record old { at = length old.text })
 Looks old names (Ok (Fault e)) new names' = (n : ℕ) × (next_of old names ≡ a_fault e.kind n) × (e.pos ≡ place_of old.file old.text n) × (names' ≡ names) × (new.text ≡ old.text) × (new.file ≡ old.file)
-Looks old names (Err e) new names' = (e.kind ≡ Memory) × table.Grows names names' × (new.text ≡ old.text) × (new.file ≡ old.file)
+Looks old names (Err e) new names' = (e.kind ≡ Memory) × table.KeepsNames names names' × (new.text ≡ old.text) × (new.file ≡ old.file)
 
 -- the refusal of what comes next
 abbrev pub Refusal : Cutting → Begun → Seen → SyntaxError → Type 0
@@ -99,12 +99,12 @@ ReadsTree old names (Ok (Some d)) new names' =
     × (new ≡ record old { at = front.to })
 ReadsTree old names (Err e) new names' =
     (new.text ≡ old.text) × (new.file ≡ old.file)
-    × (((e.kind ≡ Memory) × table.Grows names names') ⊎ Refuses (reading_of old) names old.at e names')
+    × (((e.kind ≡ Memory) × table.KeepsNames names names') ⊎ Refuses (reading_of old) names old.at e names')
 
 abbrev pub NumbersTree : Cutting → List (List ℕ) → syntax.Nodes → Result (Option Directive) SyntaxError → Cutting → List (List ℕ) → syntax.Nodes → Type 0
 NumbersTree old names s (Ok None) new names' s' = (next_of old names ≡ the_end) × (names' ≡ names) × (s' ≡ s) × (new ≡ record old { at = length old.text })
 NumbersTree old names s (Ok (Some d)) new names' s' =
-    (to : ℕ) × Finds (reading_of old) names old.at s' d to names' × syntax.Grows s s' × (new ≡ record old { at = to })
+    (to : ℕ) × Finds (reading_of old) names old.at s' d to names' × syntax.KeepsNodes s s' × (new ≡ record old { at = to })
 NumbersTree old names s (Err e) new names' s' =
     (new.text ≡ old.text) × (new.file ≡ old.file)
     × (Wants e names names' s s' ⊎ (Refuses (reading_of old) names old.at e names' × (s' ≡ s)))

@@ -2,8 +2,8 @@
 
 ghost use Rattle.std.specs.Prelude.{◌≡◌, ◌≤◌, [], None, length, IfOk, IfErr};
 ghost use Rattle.ath_grammar.specs.Directives.{directive_items};
-ghost use Rattle.ath_names.specs.Names.{Grows as NamesGrow, first_names};
-ghost use Rattle.ath_syntax.specs.Nodes.{Grows};
+ghost use Rattle.ath_names.specs.Names.{KeepsNames as NamesGrow, first_names};
+ghost use Rattle.ath_syntax.specs.Nodes.{KeepsNodes};
 ghost use Rattle.ath_reader.specs.declared.limits.TheConstants.{MOST_BYTES};
 ghost use Rattle.ath_reader.specs.Reading.{reached};
 ghost use Rattle.ath_reader.specs.Answering.{Answers};
@@ -99,7 +99,7 @@ impl Reader {
         requires { NamesGrow first_names names.old }
         ensures answers { Answers self.old self.old.progress names.old phrases.old result self.new names.new phrases.new }
         ensures names { NamesGrow names.old names.new }
-        ensures phrases { Grows phrases.old phrases.new }
+        ensures phrases { KeepsNodes phrases.old phrases.new }
     {
         if let Some(error) = self.refused {
             return Err(error);

@@ -8,8 +8,8 @@ use Rattle.ath_syntax.specs.declared.node.PhraseId.{PhraseId}
 use Rattle.ath_syntax.specs.Nodes as syntax
 use Rattle.ath_syntax.specs.Stands.{is_phrase, IsStatement, says_domain, says_datatype, says_declare, says_define, says_define_fun, says_assert, says_load, says_phrase, IsDirective, is_directive}
 use Rattle.ath_syntax.specs.Tree.{DirectiveTree, Statement}
-use Rattle.ath_names.specs.Names.{Grows}
-use Rattle.ath_names.proofs.NamesLaws.{Grows-trans}
+use Rattle.ath_names.specs.Names.{KeepsNames}
+use Rattle.ath_names.proofs.NamesLaws.{KeepsNames-trans}
 use Rattle.ath_reader.specs.Reading.{Reading, Progress, reached, refused}
 use Rattle.ath_reader.specs.Answering.{Answers}
 
@@ -35,5 +35,5 @@ module _ (s : syntax.Nodes) where
   pub number_there : (d : Directive) (i : PhraseId) → d.what ≡ Plain i → ((t : DirectiveTree) × IsDirective s d t) → i.0 < length s.phrases
   number_there d i e (t, is_directive {t = statement} h) = phrase_there i d.what statement e h
 
-pub names_grown : {first names more : List (List ℕ)} → Grows first names → Grows names more → Grows first more
-names_grown g h = Grows-trans g h
+pub names_grown : {first names more : List (List ℕ)} → KeepsNames first names → KeepsNames names more → KeepsNames first more
+names_grown g h = KeepsNames-trans g h

@@ -1,6 +1,6 @@
 // What the reader gives of a text.
 
-ghost use Rattle.ath_names.specs.Names.{Grows as NamesGrow, first_names};
+ghost use Rattle.ath_names.specs.Names.{KeepsNames as NamesGrow, first_names};
 ghost use Rattle.ath_syntax.specs.Stands.{IsDirective};
 ghost use Rattle.ath_syntax.specs.Tree.{DirectiveTree};
 

@@ -9,8 +9,8 @@ use Rattle.std.specs.Fmt.{digits}
 use Rattle.ath_grammar.specs.Tokens.{Placed, at}
 use Rattle.std.proofs.lemmas.Map.Keys.{IsDistinct-push}
 use Rattle.std.specs.Cmp.Lexicographic.{nat_list_eq_equiv}
-use Rattle.ath_names.specs.Names.{number_of, interned, numbered, fixed_words, first_names, Grows}
-use Rattle.ath_names.proofs.NamesLaws.{Grows-trans, Grows-interned}
+use Rattle.ath_names.specs.Names.{number_of, interned, numbered, fixed_words, first_names, KeepsNames}
+use Rattle.ath_names.proofs.NamesLaws.{KeepsNames-trans, KeepsNames-interned}
 use Rattle.ath_tokens.specs.Bytes.{is_word_char}
 use Rattle.ath_tokens.specs.Cut.{Cut, found, ended, fault, next_of, place_of, names_with}
 use Rattle.ath_tokens.specs.Spelling.{Lexeme, word, var, sort_var, str, punct, becomes, spells}
@@ -44,7 +44,7 @@ names_append (x ∷ xs) more h k = (h.0, names_append xs more h.1 k)
 
 -- a table that has come from another: it is longer at most, no text stands twice in it, and none has an LF
 pub record Comes (from names : List (List ℕ)) : Type 0 where
-  pub grows : Grows from names
+  pub grows : KeepsNames from names
   pub distinct : IsDistinct bytes_eq names
   pub plain : ArePlain names
 
@@ -87,7 +87,7 @@ interned_plain names text h e = by (is_some (number_of names text))
 
 interned_comes : (from names : List (List ℕ)) (text : List ℕ) → Comes from names → Plain text → Comes from (interned names text)
 interned_comes from names text c e = record {
-  grows = Grows-trans c.grows (Grows-interned names text);
+  grows = KeepsNames-trans c.grows (KeepsNames-interned names text);
   distinct = interned_distinct names text c.distinct;
   plain = interned_plain names text c.plain e;
 }

@@ -2,7 +2,7 @@
 use Rattle.std.proofs.Common.{◌≡◌, ℕ, ◌≤◌, Bool, List, [], ◌∷◌, ◌++◌, length, map, take, drop, Option, Some, None, Result, Ok, Err, refl, sym, ◌∙◌, ap, subst, arith}
 use Rattle.std.proofs.lemmas.List.{length-take, take-append-le, take-append-drop}
 use Rattle.std.proofs.lemmas.List.Elements.{All-nil, All-cons, All-same}
-use Rattle.ath_names.specs.Names.{Grows}
+use Rattle.ath_names.specs.Names.{KeepsNames}
 use Rattle.ath_syntax.specs.declared.place.Pos.{Pos}
 use Rattle.ath_terms.specs.Trees as trees
 use Rattle.ath_terms.specs.declared.measure.BuildError.{BuildError}
@@ -21,7 +21,7 @@ use Rattle.ath_print.specs.declared.fault.FaultKind.TheVariants.{NotSentence}
 use Rattle.ath_print.specs.declared.event.Event as told
 use Rattle.ath_print.specs.declared.event.Event.TheVariants as telling
 use Rattle.ath_print.specs.Events.{Event}
-use Rattle.ath_print.specs.Stands.{argument_of, refusal_of, IsFaultIn, IsFault, event_of, IsEventIn}
+use Rattle.ath_print.specs.Stands.{argument_of, refusal_of, IsFaultIn, IsRefusal, event_of, IsEventIn}
 use Rattle.ath_eval.specs.declared.world.World.{World}
 use Rattle.ath_eval.specs.declared.world.Outcome.TheVariants as out
 use Rattle.ath_base.specs.declared.entry.Origin.TheVariants.{Asserted, Concluded}
@@ -44,10 +44,10 @@ use Rattle.ath_session.specs.declared.session.Reply.{Reply}
 use Rattle.ath_session.specs.Session.{state_of, AreEvents, next_of, IsReply}
 
 -- ---- a table that begins with the first names
-pub begins : (first names : List (List ℕ)) → take (length first) names ≡ first → Grows first names
+pub begins : (first names : List (List ℕ)) → take (length first) names ≡ first → KeepsNames first names
 begins first names h = record { more = drop (length first) names; longer = sym (take-append-drop (length first) names) ∙ ap (λ front. front ++ drop (length first) names) h }
 
-pub begins_still : (first names new : List (List ℕ)) → take (length first) names ≡ first → Grows names new → take (length first) new ≡ first
+pub begins_still : (first names new : List (List ℕ)) → take (length first) names ≡ first → KeepsNames names new → take (length first) new ≡ first
 begins_still first names new h g =
     let le : length first ≤ length names = omega (arith, ap length h, length-take (length first) names) in
     ap (take (length first)) g.longer ∙ take-append-le (length first) names g.more le ∙ h
@@ -203,7 +203,7 @@ module _ (w : World) (t : trees.Trees) (grown : trees.Grows w.store t) where
           state = j ∙ (λ i. joining (s i) Asserted (q i));
         })
 
-    module _ (error : BuildError) (f : Fault) (e : made ≡ Err error) (some : error ≡ Memory → ⊥) (told : (why : Unbuilt) → IsWhy t error why → IsFault t f (building.told why)) where
+    module _ (error : BuildError) (f : Fault) (e : made ≡ Err error) (some : error ≡ Memory → ⊥) (told : (why : Unbuilt) → IsWhy t error why → IsRefusal t f (building.told why)) where
       reason : (why : Unbuilt) × (b ≡ refuses why) × IsWhy t error why
       reason = refused_why t b error some (subst (IsSentBuilt t b) e h)
 

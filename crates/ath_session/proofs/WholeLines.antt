@@ -4,8 +4,8 @@ use Rattle.std.specs.List.{AllByRecursion}
 use Rattle.ath_io.specs.Shelf.{front_of}
 use Rattle.std.specs.Str.{bytes_eq}
 use Rattle.std.specs.List.{IsDistinct}
-use Rattle.ath_names.specs.Names.{Grows}
-use Rattle.ath_names.proofs.NamesLaws.{Grows-refl, Grows-trans}
+use Rattle.ath_names.specs.Names.{KeepsNames}
+use Rattle.ath_names.proofs.NamesLaws.{KeepsNames-refl, KeepsNames-trans}
 use Rattle.ath_words.specs.Words.{Asked}
 use Rattle.ath_sorts.specs.declared.signature.Flaw.{Flaw}
 use Rattle.ath_sorts.specs.Signature.{Signature}
@@ -39,14 +39,14 @@ Texts = List (List ℕ × List ℕ)
 
 -- items told one after the other, from a table of names to another
 abbrev Whole : List (List ℕ) → List Item → List (List ℕ) → Type 0
-Whole names [] last = Grows names last
+Whole names [] last = KeepsNames names last
 Whole names (asks name ∷ items) last = Whole names items last
-Whole names (tells s ∷ items) last = Grows names s.names × IsDistinct bytes_eq s.names × IsLine s × Whole s.names items last
+Whole names (tells s ∷ items) last = KeepsNames names s.names × IsDistinct bytes_eq s.names × IsLine s × Whole s.names items last
 
-whole_behind : (first names : List (List ℕ)) (items : List Item) (last : List (List ℕ)) → Grows first names → Whole names items last → Whole first items last
-whole_behind first names [] last g h = Grows-trans g h
+whole_behind : (first names : List (List ℕ)) (items : List Item) (last : List (List ℕ)) → KeepsNames first names → Whole names items last → Whole first items last
+whole_behind first names [] last g h = KeepsNames-trans g h
 whole_behind first names (asks name ∷ items) last g h = whole_behind first names items last g h
-whole_behind first names (tells s ∷ items) last g h = (Grows-trans g h.0, h.1, h.2, h.3)
+whole_behind first names (tells s ∷ items) last g h = (KeepsNames-trans g h.0, h.1, h.2, h.3)
 
 whole_append : (first : List (List ℕ)) (items more : List Item) (names last : List (List ℕ)) → Whole first items names → Whole names more last → Whole first (items ++ more) last
 whole_append first [] more names last h k = whole_behind first names more last h k
@@ -116,7 +116,7 @@ GoesWhole first (halts items h) = (last : List (List ℕ)) × Whole first items 
 -- items that are told with the names of a configuration
 module _ (c : Configuration) (k : Comes [] c.state.names) where
   here : Whole c.state.names [] c.state.names
-  here = Grows-refl c.state.names
+  here = KeepsNames-refl c.state.names
 
   said_whole : (e : events.Event) (items : List Item) → Whole c.state.names items c.state.names → Whole c.state.names (said c e ∷ items) c.state.names
   said_whole e items h = (here, k.distinct, line_whole c.state.names c.state.signature c.files k.plain e, h)
@@ -156,7 +156,7 @@ following_whole texts c k outer at es (loads name) = go (nat_lt outer MOST_LOADS
     go false = (said_whole c k (events.refused at (refusal TooManyLoads [])) [] (here c k), k)
 
 -- a move from a table that has grown is one from the table before
-move_behind : (first names : List (List ℕ)) → Grows first names → (m : Move) → GoesWhole names m → GoesWhole first m
+move_behind : (first names : List (List ℕ)) → KeepsNames first names → (m : Move) → GoesWhole names m → GoesWhole first m
 move_behind first names g (goes items c) h = (whole_behind first names items c.state.names g h.0, h.1)
 move_behind first names g (halts items halt) h = (h.0, whole_behind first names items h.0 g h.1)
 
@@ -165,8 +165,8 @@ front_comes : (first names : List (List ℕ)) (r : Reading) (from : ℕ) (f : Fr
 front_comes first names r from f after h e = subst (Comes first) (sym e) (past_comes r.file r.text first names from f.tokens f.known f.to f.next h f.read f.comes)
 
 -- from a table to one that has come from it
-both_come : (first names : List (List ℕ)) → ((from : List (List ℕ)) → Comes from first → Comes from names) → Comes [] first → Grows first names × Comes [] names
-both_come first names on k = ((on first (record { grows = Grows-refl first; distinct = k.distinct; plain = k.plain })).grows, on [] k)
+both_come : (first names : List (List ℕ)) → ((from : List (List ℕ)) → Comes from first → Comes from names) → Comes [] first → KeepsNames first names × Comes [] names
+both_come first names on k = ((on first (record { grows = KeepsNames-refl first; distinct = k.distinct; plain = k.plain })).grows, on [] k)
 
 turned_whole : (texts : Texts) (c : Configuration) → Comes [] c.state.names → (r : Reading) (rs : List Reading) (from : ℕ) (n : reading.Upcoming) → reading.IsNext r c.state.names from n → GoesWhole c.state.names (turned texts c r rs n)
 turned_whole texts c k r rs from (reading.whole d to known) next =
@@ -174,7 +174,7 @@ turned_whole texts c k r rs from (reading.whole d to known) next =
     let both = both_come c.state.names known (λ first h. front_comes first c.state.names r from next.front known h next.after) k in
     let same = effect_names (with_names known c.state) d in
     let after : Configuration = record c { stack = record r { progress = reached to } ∷ rs; state = e.state } in
-    move_behind c.state.names e.state.names (subst (Grows c.state.names) (sym same) both.0) (following texts after (length rs) (place_of d) e.events e.next)
+    move_behind c.state.names e.state.names (subst (KeepsNames c.state.names) (sym same) both.0) (following texts after (length rs) (place_of d) e.events e.next)
     (following_whole texts after (subst (Comes []) (sym same) both.1) (length rs) (place_of d) e.events e.next)
 turned_whole texts c k r rs from reading.ended next = (here c k, k)
 turned_whole texts c k r rs from (reading.stopped e known) next =

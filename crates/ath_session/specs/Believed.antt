@@ -2,7 +2,7 @@
 use Rattle.std.specs.Prelude.{◌≡◌, ◌↔◌, ℕ, Bool, true, false, ◌==◌, List, [], ◌∷◌, ◌++◌, map, take, codes, Option, Some}
 use Rattle.std.specs.List.{list_any, concat, IsDistinct, AllByRecursion}
 use Rattle.std.specs.Str.{bytes_eq}
-use Rattle.ath_names.specs.Names.{Grows}
+use Rattle.ath_names.specs.Names.{KeepsNames}
 use Rattle.ath_io.specs.Shelf.{Texts}
 use Rattle.ath_io.specs.Sink.{Held}
 use Rattle.ath_print.specs.Events.{is_theorem}
@@ -24,7 +24,7 @@ pub record IsLine (s : Said) : Type 0 where
 -- a name stands for one symbol throughout: each table of names is a front of the next, and no text stands twice in one
 abbrev pub AreNamed : List (List ℕ) → List Said → Type 0
 AreNamed names [] = Unit {0}
-AreNamed names (s ∷ ss) = Grows names s.names × IsDistinct bytes_eq s.names × AreNamed s.names ss
+AreNamed names (s ∷ ss) = KeepsNames names s.names × IsDistinct bytes_eq s.names × AreNamed s.names ss
 
 -- what is said may be believed: its theorems have derivations, its names are clear, and its lines are lines
 pub record AreBelieved (ss : List Said) : Type 0 where

@@ -17,7 +17,7 @@ ghost use Rattle.ath_sorts.specs.Signature.{Signature as Declared};
 ghost use Rattle.ath_terms.specs.SortsIn.{IsSortedIn};
 ghost use Rattle.ath_terms.specs.Trees.{Trees, Grows, sent_at};
 ghost use Rattle.ath_print.specs.Events.{domain_added, symbols_added};
-ghost use Rattle.ath_print.specs.Stands.{IsFault, IsFaultIn, event_of, refusal_of};
+ghost use Rattle.ath_print.specs.Stands.{IsRefusal, IsFaultIn, event_of, refusal_of};
 ghost use Rattle.ath_session.specs.Directives.{outcome_in, effect, done, declaring, declaration_refusal, asserting, asserting_built, asserting_sentence, to_assert, showing, loading, refusing};
 ghost use Rattle.ath_session.specs.Session.{state_of, ParamsDiffer, IsReply, KeepsNumbers};
 ghost use Rattle.ath_session.specs.Sound.{IsSound, AreFollowing};
@@ -92,7 +92,7 @@ fn ending(alloc: Global, at: Pos) -> Result<Reply, AllocError>
 
 /// Why a declaration is refused.
 fn declaration_fault(alloc: Global, flaw: Flaw) -> Result<Fault, AllocError>
-    ensures { (s : Trees) → IfOk result (λ f. IsFault s f (declaration_refusal flaw)) }
+    ensures { (s : Trees) → IfOk result (λ f. IsRefusal s f (declaration_refusal flaw)) }
 {
     match flaw {
         Flaw::Redeclared(n) => Fault::naming(alloc, FaultKind::Redeclared, FaultArg::Name(n)),

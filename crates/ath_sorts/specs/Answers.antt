@@ -12,6 +12,6 @@ MatchFault fault (Err Memory) = Unit {0}
 MatchFault fault (Err e) = option_map error_of fault ≡ Some e
 
 -- the answer is this flaw, or Ok where there is none
-abbrev pub IsFault : Option Flaw → Result (Unit {0}) Flaw → Type 0
-IsFault fault (Ok u) = fault ≡ None
-IsFault fault (Err f) = fault ≡ Some f
+abbrev pub IsFlaw : Option Flaw → Result (Unit {0}) Flaw → Type 0
+IsFlaw fault (Ok u) = fault ≡ None
+IsFlaw fault (Err f) = fault ≡ Some f

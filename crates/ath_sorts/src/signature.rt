@@ -7,7 +7,7 @@ ghost use Rattle.std.specs.Map.{lookup};
 ghost use Rattle.ath_sorts.specs.Sorts.{occurs};
 ghost use Rattle.ath_sorts.specs.Signature.{arity_of, symbol_of, initial};
 ghost use Rattle.ath_sorts.specs.Declaring.{error_of, all_small, domain_fault, loose_faults, symbol_fault, use_fault, use_faults, with_sort, with_symbol};
-ghost use Rattle.ath_sorts.specs.Answers.{MatchFault, IsFault};
+ghost use Rattle.ath_sorts.specs.Answers.{MatchFault, IsFlaw};
 ghost use Rattle.ath_sorts.specs.declared.signature.SigError.TheVariants.{Memory};
 
 use crate::limits::{MOST_WIDTH, is_within_limits};
@@ -146,7 +146,7 @@ impl Signature {
 
     /// Refuses a sort constructor as `add_domain` does, and adds nothing.
     pub fn check_domain(&self, name: Sym, arity: usize) -> Result<(), Flaw>
-        ensures { IsFault (domain_fault self.now name arity) result }
+        ensures { IsFlaw (domain_fault self.now name arity) result }
     {
         if self.sort_arity(name).is_some() {
             return Err(Flaw::Redeclared(name));
@@ -189,7 +189,7 @@ impl Signature {
         args: &[Sort],
         result_sort: &Sort,
     ) -> Result<(), Flaw>
-        ensures { IsFault (symbol_fault self.now name params.now args.now result_sort.now) result }
+        ensures { IsFlaw (symbol_fault self.now name params.now args.now result_sort.now) result }
     {
         if self.has_symbol(name) {
             return Err(Flaw::Redeclared(name));
@@ -206,7 +206,7 @@ impl Signature {
     }
 
     fn check_uses(&self, params: &[Sym], sorts: &[Sort]) -> Result<(), Flaw>
-        ensures { IsFault (use_faults self.now params.now sorts.now) result }
+        ensures { IsFlaw (use_faults self.now params.now sorts.now) result }
     {
         for sort in sorts {
             self.check_use(params, sort)?;
@@ -215,7 +215,7 @@ impl Signature {
     }
 
     fn check_use(&self, params: &[Sym], sort: &Sort) -> Result<(), Flaw>
-        ensures { IsFault (use_fault self.now params.now sort.now) result }
+        ensures { IsFlaw (use_fault self.now params.now sort.now) result }
     {
         match sort {
             Sort::Var(SVar::Made(_)) => Ok(()),
@@ -268,7 +268,7 @@ fn are_within_limits(args: &[Sort], result_sort: &Sort) -> bool
 
 /// Refuses the first parameter that occurs in no argument and not in the result.
 fn check_loose(params: &[Sym], args: &[Sort], result_sort: &Sort) -> Result<(), Flaw>
-    ensures { IsFault (loose_faults (args.now ++ result_sort.now ∷ []) params.now) result }
+    ensures { IsFlaw (loose_faults (args.now ++ result_sort.now ∷ []) params.now) result }
 {
     for param in params {
         if !occurs_among(*param, args, result_sort) {

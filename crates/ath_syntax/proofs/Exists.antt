@@ -10,7 +10,7 @@ use Rattle.ath_syntax.specs.declared.node.Form.{Form}
 use Rattle.ath_syntax.specs.declared.node.Form.TheVariants.{Name, Var, Str, List as Listed, Ascribe, Apply, Call, Lambda, Method, Let, LetRec, Match, Check, Try, Seq, Assume, Absurd, PickAny, PickWitness, Induct, Cases, Conclude}
 use Rattle.ath_syntax.specs.declared.node.PatNode.{PatNode}
 use Rattle.ath_syntax.specs.declared.node.PatNode.TheVariants.{Any, Name as PatName, Str as PatStr, List as PatList, ListOf, App, Some as SomeOf}
-use Rattle.ath_syntax.specs.Nodes.{Nodes, Grows}
+use Rattle.ath_syntax.specs.Nodes.{Nodes, KeepsNodes}
 use Rattle.ath_syntax.specs.Tree.{Pattern, any_pattern, name_pattern, string_pattern, list_pattern, list_of_pattern, app_pattern, some_pattern, Patterns, no_patterns, more_patterns, Phrase, name_at, variable_at, string_at, list_at, ascribe_at, apply_at, call_at, lambda_at, method_at, let_at, letrec_at, match_at, check_at, try_at, seq_at, assume_at, absurd_at, pick_any_at, pick_witness_at, induct_at, cases_at, conclude_at, Phrases, no_phrases, more_phrases, Bindings, no_bindings, more_bindings, Clauses, no_clauses, more_clauses, Branches, no_branches, more_branches, Otherwise, no_else, else_phrase}
 use Rattle.ath_syntax.specs.Stands.{IsPattern, is_pattern, IsPatternNode, pattern_is_any, pattern_is_name, pattern_is_string, pattern_is_list, pattern_is_list_of, pattern_is_app, pattern_is_some, ArePatterns, patterns_none, patterns_more, IsPhrase, is_phrase, IsForm, is_name, is_variable, is_string, is_list, is_ascribe, is_apply, is_call, is_lambda, is_method, is_let, is_letrec, is_match, is_check, is_try, is_seq, is_assume, is_absurd, is_pick_any, is_pick_witness, is_induct, is_cases, is_conclude, ArePhrases, phrases_none, phrases_more, AreBindings, bindings_none, bindings_more, AreClauses, clauses_none, clauses_more, AreBranches, branches_none, branches_more, IsOtherwise, otherwise_none, otherwise_some}
 use Rattle.ath_syntax.specs.Fits.{IsPart, IsKind, IsBound, IsClosure, OtherwiseFits, FitsForm, IsPatternPart, PatternFits, NodesFit, before}
@@ -122,8 +122,8 @@ module _ (s : Nodes) (k : ℕ) (ih : (j : PhraseId) → IsPart (before s k) j �
   form_exists d p (Conclude x i j) h = let a = of_kind false i h.1 in let b = of_kind true j h.2 in (conclude_at p x a.0 b.0, is_conclude a.1 b.1)
 
 -- the nodes before a number, and all
-Grows-before : (s : Nodes) (i : ℕ) → Grows (before s i) s
-Grows-before s i = record { phrase = λ j n h. slice_get_take s.phrases i j n h; pattern = λ j n h. h }
+KeepsNodes-before : (s : Nodes) (i : ℕ) → KeepsNodes (before s i) s
+KeepsNodes-before s i = record { phrase = λ j n h. slice_get_take s.phrases i j n h; pattern = λ j n h. h }
 
 phrase_exists_below : (s : Nodes) → NodesFit s → (k : ℕ) (i : PhraseId) → i.0 < k → IsPart s i → (t : Phrase) × IsPhrase s i t
 phrase_exists_below s sound zero i lt part = absurd (omega (arith, lt))
@@ -131,7 +131,7 @@ phrase_exists_below s sound (suc k) i lt part =
     let n = slice_get_there s.phrases i.0 part in
     let fits = sound.phrase i.0 n.0 n.1 in
     let f = form_exists s i.0 (λ j h. let b = below_take s.phrases i.0 j.0 h in phrase_exists_below s sound k j (omega (arith, lt, b.0)) b.1) n.0.deduction n.0.pos n.0.form fits in
-    (f.0, is_phrase n.1 (node_of_form s n.0 f.0 (fits_kept (before s i.0) s (Grows-before s i.0) n.0 fits) f.1))
+    (f.0, is_phrase n.1 (node_of_form s n.0 f.0 (fits_kept (before s i.0) s (KeepsNodes-before s i.0) n.0 fits) f.1))
 
 -- every phrase's number stands for a tree
 pub phrase_exists : (s : Nodes) → NodesFit s → (i : PhraseId) → IsPart s i → (t : Phrase) × IsPhrase s i t

@@ -7,7 +7,7 @@ use Rattle.std.proofs.lemmas.Option.{slice_get_within, slice_get-get_or, get_or_
 use Rattle.ath_syntax.specs.declared.node.PhraseId.{PhraseId}
 use Rattle.ath_syntax.specs.declared.node.Node.{Node}
 use Rattle.ath_syntax.specs.declared.node.PatNode.{PatNode}
-use Rattle.ath_syntax.specs.Nodes.{Nodes, Grows, with_phrase, with_pattern, deduces, kind_at}
+use Rattle.ath_syntax.specs.Nodes.{Nodes, KeepsNodes, with_phrase, with_pattern, deduces, kind_at}
 use Rattle.ath_syntax.specs.Fits.{IsPart, IsKind, IsClosure, is_closure}
 
 pub slice_get-front : {A : Type 0} (xs ys : List A) (i : ℕ) (x : A) → slice_get xs i ≡ Some x → slice_get (xs ++ ys) i ≡ Some x
@@ -39,17 +39,17 @@ slice_get-push xs y i x h = by (slice_get_cases xs i).1
         let e : i ≡ length xs = omega (arith, length-append xs (y ∷ []), lt, g.0) in
         inr (e, same_Some _ _ (sym (slice_get-seam xs y i e) ∙ h))
 
-pub Grows-refl : (s : Nodes) → Grows s s
-Grows-refl s = record { phrase = λ i n h. h; pattern = λ i n h. h }
+pub KeepsNodes-refl : (s : Nodes) → KeepsNodes s s
+KeepsNodes-refl s = record { phrase = λ i n h. h; pattern = λ i n h. h }
 
-pub Grows-trans : {a b c : Nodes} → Grows a b → Grows b c → Grows a c
-Grows-trans g h = record { phrase = λ i n x. h.phrase i n (g.phrase i n x); pattern = λ i n x. h.pattern i n (g.pattern i n x) }
+pub KeepsNodes-trans : {a b c : Nodes} → KeepsNodes a b → KeepsNodes b c → KeepsNodes a c
+KeepsNodes-trans g h = record { phrase = λ i n x. h.phrase i n (g.phrase i n x); pattern = λ i n x. h.pattern i n (g.pattern i n x) }
 
-pub Grows-phrase : (s : Nodes) (n : Node) → Grows s (with_phrase s n)
-Grows-phrase s n = record { phrase = λ i m h. slice_get-front s.phrases (n ∷ []) i m h; pattern = λ i m h. h }
+pub KeepsNodes-phrase : (s : Nodes) (n : Node) → KeepsNodes s (with_phrase s n)
+KeepsNodes-phrase s n = record { phrase = λ i m h. slice_get-front s.phrases (n ∷ []) i m h; pattern = λ i m h. h }
 
-pub Grows-pattern : (s : Nodes) (n : PatNode) → Grows s (with_pattern s n)
-Grows-pattern s n = record { phrase = λ i m h. h; pattern = λ i m h. slice_get-front s.patterns (n ∷ []) i m h }
+pub KeepsNodes-pattern : (s : Nodes) (n : PatNode) → KeepsNodes s (with_pattern s n)
+KeepsNodes-pattern s n = record { phrase = λ i m h. h; pattern = λ i m h. slice_get-front s.patterns (n ∷ []) i m h }
 
 -- the kind of a node that is there
 pub kind_of_node : (s : Nodes) (i : PhraseId) (n : Node) → slice_get s.phrases i.0 ≡ Some n → kind_at s i ≡ Some n.deduction
@@ -69,7 +69,7 @@ part_of_closure s i h = by (slice_get s.phrases i.0) refl h
     by None g k = absurd (grind arith)
     by (Some n) g k = (n, g)
 
-module _ (old new : Nodes) (g : Grows old new) where
+module _ (old new : Nodes) (g : KeepsNodes old new) where
   pub part_kept : (i : PhraseId) → IsPart old i → IsPart new i
   part_kept i lt = let n = slice_get_there old.phrases i.0 lt in slice_get_within new.phrases i.0 n.0 (g.phrase i.0 n.0 n.1)
 

@@ -12,7 +12,7 @@ use Rattle.ath_syntax.specs.declared.node.PatNode.{PatNode}
 use Rattle.ath_syntax.specs.declared.directive.What.{What}
 use Rattle.ath_syntax.specs.declared.directive.Directive.{Directive}
 use Rattle.ath_sorts.specs.declared.sorts.Sym.{Sym}
-use Rattle.ath_syntax.specs.Nodes.{Nodes, Grows}
+use Rattle.ath_syntax.specs.Nodes.{Nodes, KeepsNodes}
 use Rattle.ath_syntax.specs.Tree.{Pattern, Patterns, Phrase, Phrases, Bindings, Clauses, Branches, Otherwise, Statement, DirectiveTree}
 use Rattle.ath_syntax.specs.Stands.{IsPattern, is_pattern, IsPatternNode, pattern_is_any, pattern_is_name, pattern_is_string, pattern_is_list, pattern_is_list_of, pattern_is_app, pattern_is_some, ArePatterns, patterns_none, patterns_more, IsPhrase, is_phrase, IsNode, is_node, IsForm, is_name, is_variable, is_string, is_list, is_ascribe, is_apply, is_call, is_lambda, is_method, is_let, is_letrec, is_match, is_check, is_try, is_seq, is_assume, is_absurd, is_pick_any, is_pick_witness, is_induct, is_cases, is_conclude, ArePhrases, phrases_none, phrases_more, AreBindings, bindings_none, bindings_more, AreClauses, clauses_none, clauses_more, AreBranches, branches_none, branches_more, IsOtherwise, otherwise_none, otherwise_some, IsStatement, says_domain, says_datatype, says_declare, says_define, says_define_fun, says_assert, says_load, says_phrase, IsDirective, is_directive}
 use Rattle.ath_syntax.specs.Fits.{IsPart, IsKind, IsBound, IsClosure, ClausesFit, OtherwiseFits, Fits, FitsForm}
@@ -36,10 +36,10 @@ module _ (old new : List PatNode) (more : (i : ℕ) (n : PatNode) → slice_get 
     keep_patterns is ts patterns_none = patterns_none
     keep_patterns is ts (patterns_more a b) = patterns_more (keep_pattern _ _ a) (keep_patterns _ _ b)
 
-pub keep_pattern_number : (old new : Nodes) → Grows old new → (i : PatId) (t : Pattern) → IsPattern old.patterns i t → IsPattern new.patterns i t
+pub keep_pattern_number : (old new : Nodes) → KeepsNodes old new → (i : PatId) (t : Pattern) → IsPattern old.patterns i t → IsPattern new.patterns i t
 keep_pattern_number old new g = keep_pattern old.patterns new.patterns g.pattern
 
-module _ (old new : Nodes) (g : Grows old new) where
+module _ (old new : Nodes) (g : KeepsNodes old new) where
   mutual
     pub keep_phrase : (i : PhraseId) (t : Phrase) → IsPhrase old i t → IsPhrase new i t
     keep_phrase i t (is_phrase a b) = is_phrase (g.phrase _ _ a) (keep_node _ t b)

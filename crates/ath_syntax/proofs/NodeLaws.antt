@@ -13,7 +13,7 @@ use Rattle.ath_syntax.specs.Nodes.{Nodes, with_phrase}
 use Rattle.ath_syntax.specs.Tree.{Pattern, Phrase, Phrases, Clauses, Branches, is_deduction, phrases_deduce, clauses_deduce, branches_deduce}
 use Rattle.ath_syntax.specs.Stands.{IsPattern, is_pattern, IsPatternNode, IsPhrase, is_phrase, IsNode, is_node, IsForm, is_name, is_variable, is_string, is_list, is_ascribe, is_apply, is_call, is_lambda, is_method, is_let, is_letrec, is_match, is_check, is_try, is_seq, is_assume, is_absurd, is_pick_any, is_pick_witness, is_induct, is_cases, is_conclude, ArePhrases, phrases_none, phrases_more, AreClauses, clauses_none, clauses_more, AreBranches, branches_none, branches_more}
 use Rattle.ath_syntax.specs.Fits.{IsPart, IsKind, Fits, FitsForm}
-use Rattle.ath_syntax.proofs.Growth.{kind_of_node, slice_get-front, slice_get-seam, Grows-phrase}
+use Rattle.ath_syntax.proofs.Growth.{kind_of_node, slice_get-front, slice_get-seam, KeepsNodes-phrase}
 use Rattle.ath_syntax.proofs.Kept.{keep_node, keep_pattern_node}
 
 module _ (s : Nodes) where
@@ -80,7 +80,7 @@ module _ (s : Nodes) where
 
   -- and so does the number that it gets
   pub phrase_of_new : (n : Node) (t : Phrase) (i : PhraseId) → Fits s n → i.0 ≡ length s.phrases → IsForm s n.pos n.form t → IsPhrase (with_phrase s n) i t
-  phrase_of_new n t i h e f = is_phrase (slice_get-seam s.phrases n i.0 e) (keep_node s (with_phrase s n) (Grows-phrase s n) n t (node_of_form n t h f))
+  phrase_of_new n t i h e f = is_phrase (slice_get-seam s.phrases n i.0 e) (keep_node s (with_phrase s n) (KeepsNodes-phrase s n) n t (node_of_form n t h f))
 
 -- a pattern's node
 pub pattern_node_at : (nodes : List PatNode) (i : PatId) (n : PatNode) (t : Pattern) → IsPattern nodes i t → slice_get nodes i.0 ≡ Some n → IsPatternNode nodes n t

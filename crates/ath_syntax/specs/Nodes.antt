@@ -10,7 +10,7 @@ pub record Nodes : Type 0 where
   pub patterns : List PatNode
 
 -- every number keeps its node
-pub record Grows (old new : Nodes) : Type 0 where
+pub record KeepsNodes (old new : Nodes) : Type 0 where
   pub phrase : (i : ℕ) (n : Node) → slice_get old.phrases i ≡ Some n → slice_get new.phrases i ≡ Some n
   pub pattern : (i : ℕ) (n : PatNode) → slice_get old.patterns i ≡ Some n → slice_get new.patterns i ≡ Some n
 

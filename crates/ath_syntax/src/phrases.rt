@@ -2,7 +2,7 @@
 
 ghost use Rattle.std.specs.Prelude.{◌≡◌, ◌<◌, [], Some, length, slice_get, take, IfOk, OnErr};
 ghost use Rattle.ath_syntax.specs.Fits.{Fits, IsKind, PatternFits, before};
-ghost use Rattle.ath_syntax.specs.Nodes.{Grows, with_phrase, with_pattern};
+ghost use Rattle.ath_syntax.specs.Nodes.{KeepsNodes, with_phrase, with_pattern};
 ghost use Rattle.ath_syntax.specs.Stands.{IsForm, IsPhrase, IsPattern, IsPatternNode};
 ghost use Rattle.ath_syntax.specs.Tree.{Phrase, Pattern};
 
@@ -51,7 +51,7 @@ impl Phrases {
         ensures number { IfOk result (λ p. p.0 ≡ length self.old.phrases) }
         ensures kind { IfOk result (λ p. IsKind self.new node.deduction p) }
         ensures stands { IfOk result (λ p. (t : Phrase) → IsForm self.old node.pos node.form t → IsPhrase self.new p t) }
-        ensures kept { Grows self.old self.new }
+        ensures kept { KeepsNodes self.old self.new }
         ensures err { OnErr result (self.new ≡ self.old) }
     {
         let number = self.phrases.len();
@@ -65,7 +65,7 @@ impl Phrases {
         ensures added { IfOk result (λ _. self.new ≡ with_pattern self.old node) }
         ensures number { IfOk result (λ p. p.0 ≡ length self.old.patterns) }
         ensures stands { IfOk result (λ p. (t : Pattern) → IsPatternNode self.old.patterns node t → IsPattern self.new.patterns p t) }
-        ensures kept { Grows self.old self.new }
+        ensures kept { KeepsNodes self.old self.new }
         ensures err { OnErr result (self.new ≡ self.old) }
     {
         let number = self.patterns.len();

@@ -72,13 +72,13 @@ Tells old rest (Ok t) new = (t.1 ≤ length rest) × ((l : Lexeme) × ((at : ℕ
 Tells old rest (Err e) new = (e.1 < length rest) × ((e.0 ≡ Memory) ⊎ ((at : ℕ) → cut_at at rest ≡ fault e.0 (at + e.1))) × (new ≡ old)
 
 -- an error that a cut of the text has
-abbrev pub IsFault : ℕ → List ℕ → Cut → LexError → Type 0
-IsFault file text cut e = (n : ℕ) × (cut ≡ fault e.kind n) × (e.pos ≡ place_of file text n)
+abbrev pub IsLexFault : ℕ → List ℕ → Cut → LexError → Type 0
+IsLexFault file text cut e = (n : ℕ) × (cut ≡ fault e.kind n) × (e.pos ≡ place_of file text n)
 
 -- where the blanks and comments end, or the fault in them
 abbrev pub Starts : ℕ → List ℕ → ℕ → Result Mark LexError → Type 0
 Starts file text from (Ok start) = IsMark text start × (next_of text from ≡ cut_at start.at (drop start.at text))
-Starts file text from (Err e) = IsFault file text (next_of text from) e
+Starts file text from (Err e) = IsLexFault file text (next_of text from) e
 
 -- the token at a place and what follows it, or the fault there
 abbrev pub Cuts : ℕ → List ℕ → ℕ → List (List ℕ) → Result Step LexError → List (List ℕ) → Type 0
@@ -86,7 +86,7 @@ Cuts file text at old (Ok step) new =
     IsMark text step.mark
     × ((l : Lexeme) × (cut_at at (drop at text) ≡ found l step.start step.mark.at) × (new ≡ names_with old l) × (token_of new l ≡ Some step.token))
     × (step.pos ≡ place_of file text step.start)
-Cuts file text at old (Err e) new = ((e.kind ≡ Memory) ⊎ IsFault file text (cut_at at (drop at text)) e) × (new ≡ old)
+Cuts file text at old (Err e) new = ((e.kind ≡ Memory) ⊎ IsLexFault file text (cut_at at (drop at text)) e) × (new ≡ old)
 
 -- the next token and what follows it, the end, or the fault
 abbrev pub Advances : ℕ → List ℕ → ℕ → List (List ℕ) → Result (Option Step) LexError → List (List ℕ) → Type 0
@@ -95,4 +95,4 @@ Advances file text from old (Ok (Some step)) new =
     × ((l : Lexeme) × (next_of text from ≡ found l step.start step.mark.at) × (new ≡ names_with old l) × (token_of new l ≡ Some step.token))
     × (step.pos ≡ place_of file text step.start)
 Advances file text from old (Ok None) new = (next_of text from ≡ ended) × (new ≡ old)
-Advances file text from old (Err e) new = ((e.kind ≡ Memory) ⊎ IsFault file text (next_of text from) e) × (new ≡ old)
+Advances file text from old (Err e) new = ((e.kind ≡ Memory) ⊎ IsLexFault file text (next_of text from) e) × (new ≡ old)

@@ -8,7 +8,7 @@ use Rattle.ath_unifiers.specs.declared.nodes.Node.TheVariants.{Leaf, Branch}
 use Rattle.ath_sorts.specs.declared.sorts.SVar.{SVar}
 use Rattle.ath_sorts.specs.declared.sorts.Sort.{Sort, Var, Con}
 use Rattle.ath_sorts.specs.Sorts.{size_of}
-use Rattle.ath_unifiers.specs.Graphs.{class_at, head_at, value, Respects, IsGraph, leaf, branch, AllGrow, nothing, further, HasTree, is_marked, ready_node, is_ready, MarksTrees, IsStuck, IsStuckAt, MatchAcyclic, unmarked}
+use Rattle.ath_unifiers.specs.Graphs.{class_at, head_at, value, Respects, IsGraph, leaf, branch, AllUnfold, nothing, further, HasTree, is_marked, ready_node, is_ready, MarksTrees, IsStuck, IsStuckAt, MatchAcyclic, unmarked}
 use Rattle.ath_sorts.proofs.Gets.{get-there, all-at, some-inj, some-not-none}
 use Rattle.ath_unifiers.proofs.GraphValues.{value-branch}
 use Rattle.ath_sorts.proofs.SortLaws.{size-con}
@@ -35,7 +35,7 @@ part_size h (i ∷ js) (suc k) j e = rest_size (size_of (h i)) (map size_of (map
     rest_size x xs y l = grind (arith, common_steps)
 
 -- a node whose arguments all have trees has one
-trees_of : {g : Graph} (marks : List Bool) → MarksTrees g marks → (js : List ℕ) → list_all (is_marked marks) js ≡ true → (ts : List Sort) × AllGrow g js ts
+trees_of : {g : Graph} (marks : List Bool) → MarksTrees g marks → (js : List ℕ) → list_all (is_marked marks) js ≡ true → (ts : List Sort) × AllUnfold g js ts
 trees_of marks m [] h = ([], nothing)
 trees_of marks m (j ∷ js) h =
     let p = and_parts (is_marked marks j) (list_all (is_marked marks) js) h in

@@ -10,7 +10,7 @@ use Rattle.ath_sorts.specs.declared.sorts.SVar.{SVar}
 use Rattle.ath_sorts.specs.declared.sorts.Sort.{Sort, Var, Con}
 use Rattle.ath_sorts.specs.declared.sorts.Sym.{Sym}
 use Rattle.ath_sorts.specs.Sorts.{same_svar, apply_to}
-use Rattle.ath_unifiers.specs.Order.{comes_first, joined, vars_of}
+use Rattle.ath_unifiers.specs.Order.{comes_first, concatenated, vars_of}
 use Rattle.ath_unifiers.specs.Graphs.{class_at, value, Respects, IsGraph, IsClosed, LeafFree, IsOrdered, GraphGrows, AddsSort, AddsSorts, stands_before}
 use Rattle.ath_sorts.proofs.Gets.{get-left, get-seam, get-last, get-within, get-past, length-snoc, length-both, all-weaker, all-snoc, map-same, map-both}
 use Rattle.ath_unifiers.proofs.GraphTrees.{leaf-inj, leaf-not-branch, branch-inj}
@@ -276,9 +276,9 @@ adds_known g v at h =
       is_value = λ f. value-leaf f g.nodes at v h ∙ sym (apply-var f v);
     }
 
-joined-last : (vss : List (List SVar)) (vs : List SVar) → joined (vss ++ vs ∷ []) ≡ joined vss ++ vs
-joined-last [] vs = append-none vs
-joined-last (ws ∷ vss) vs = ap (λ r. ws ++ r) (joined-last vss vs) ∙ sym (append_assoc ws (joined vss) vs)
+concatenated-last : (vss : List (List SVar)) (vs : List SVar) → concatenated (vss ++ vs ∷ []) ≡ concatenated vss ++ vs
+concatenated-last [] vs = append-none vs
+concatenated-last (ws ∷ vss) vs = ap (λ r. ws ++ r) (concatenated-last vss vs) ∙ sym (append_assoc ws (concatenated vss) vs)
 
 pub adds_none : (g : Graph) → AddsSorts g g [] []
 adds_none g = record { grows = grows_none g; within = tt; are_values = λ f. refl }
@@ -292,9 +292,9 @@ kept_value a b vs g f i l = ap (λ ns. value f ns i) g.more.1 ∙ value-kept f a
 pub adds_more : (a b c : Graph) (ss : List Sort) (is : List ℕ) (s : Sort) (i : ℕ) → AddsSorts a b ss is → AddsSort b c s i → AddsSorts a c (ss ++ s ∷ []) (is ++ i ∷ [])
 adds_more a b c ss is s i p q =
     let n = longer b c (vars_of s) q.grows in
-    let vs = joined-last (map vars_of ss) (vars_of s) in
+    let vs = concatenated-last (map vars_of ss) (vars_of s) in
     record {
-      grows = subst (GraphGrows a c) (sym (ap joined (map-both vars_of ss (s ∷ [])) ∙ vs)) (grows_then a b c (joined (map vars_of ss)) (vars_of s) p.grows q.grows);
+      grows = subst (GraphGrows a c) (sym (ap concatenated (map-both vars_of ss (s ∷ [])) ∙ vs)) (grows_then a b c (concatenated (map vars_of ss)) (vars_of s) p.grows q.grows);
       within = all-snoc (λ j. j < length c.nodes) is i (all-weaker (λ j. j < length b.nodes) (λ j. j < length c.nodes) is (λ j l. omega arith) p.within) q.within;
       are_values = λ f.
           map-both (value f c.nodes) is (i ∷ [])
@@ -318,7 +318,7 @@ adds_con a b new c args js at h is p q =
     } in
     let e : new ≡ target = graph_is b new (Branch c js) p (q ∙ ap (λ (k : ℕ). b.class ++ k ∷ []) is) in
     subst (λ x. P x at) (sym e) (subst (λ k. P target k) (sym is) (record {
-      grows = subst (GraphGrows a target) (append-none (joined (map vars_of args)) ∙ sym (vars-con c args)) (grows_then a b target (joined (map vars_of args)) [] h.grows grown);
+      grows = subst (GraphGrows a target) (append-none (concatenated (map vars_of args)) ∙ sym (vars-con c args)) (grows_then a b target (concatenated (map vars_of args)) [] h.grows grown);
       within = let k = length-snoc b.nodes (Branch c js) in omega arith;
       is_value = λ f. value-new-branch f b.nodes c js ∙ ap (Con c) (h.are_values f) ∙ sym (apply-con f c args);
     }))

@@ -9,7 +9,7 @@ use Rattle.ath_sorts.specs.declared.sorts.SVar.{SVar}
 use Rattle.ath_sorts.specs.declared.sorts.Sort.{Sort, Var, Con}
 use Rattle.ath_sorts.specs.declared.sorts.Sym.{Sym}
 use Rattle.ath_sorts.specs.Sorts.{size_of, depth_of, greatest}
-use Rattle.ath_unifiers.specs.Graphs.{class_at, head_at, Grows, leaf, branch, AllGrow, nothing, further, IsNoBranch}
+use Rattle.ath_unifiers.specs.Graphs.{class_at, head_at, Unfolds, leaf, branch, AllUnfold, nothing, further, IsNoBranch}
 use Rattle.ath_sorts.proofs.Gets.{get-or-get, some-inj, some-not-none}
 use Rattle.ath_unifiers.proofs.GraphTrees.{leaf-not-branch, branch-inj}
 use Rattle.ath_sorts.proofs.SortLaws.{sort_induction, size-var, size-con, depth-var, depth-con}
@@ -23,25 +23,25 @@ has_size =
     (λ c args h. (let e = size-con c args in omega arith, let e = depth-con c args in omega arith))
 
 -- the tree of a node with a constructor
-pub branch-tree : {g : Graph} {i : ℕ} {t : Sort} (c : Sym) (js : List ℕ) → head_at g i ≡ Some (Branch c js) → Grows g i t → (ts : List Sort) × (AllGrow g js ts × (t ≡ Con c ts))
+pub branch-tree : {g : Graph} {i : ℕ} {t : Sort} (c : Sym) (js : List ℕ) → head_at g i ≡ Some (Branch c js) → Unfolds g i t → (ts : List Sort) × (AllUnfold g js ts × (t ≡ Con c ts))
 branch-tree c js h (leaf v k p) = absurd (leaf-not-branch v c js (sym k ∙ h))
 branch-tree {g} {i} {t} c js h (branch d ks ts k a p) =
     let e = branch-inj d c ks js (sym k ∙ h) in
-    (ts, (subst (λ x. AllGrow g x ts) e.1 a, p ∙ ap (λ z. Con z ts) e.0))
+    (ts, (subst (λ x. AllUnfold g x ts) e.1 a, p ∙ ap (λ z. Con z ts) e.0))
 
 -- the tree of a node without one
-pub leaf-tree : {g : Graph} {i : ℕ} {t : Sort} → IsNoBranch (head_at g i) → Grows g i t → (v : SVar) × (t ≡ Var v)
+pub leaf-tree : {g : Graph} {i : ℕ} {t : Sort} → IsNoBranch (head_at g i) → Unfolds g i t → (v : SVar) × (t ≡ Var v)
 leaf-tree h (leaf v k p) = (v, p)
 leaf-tree h (branch c js ts k a p) = absurd (subst IsNoBranch k h)
 
-pub tree-at : {g : Graph} (js : List ℕ) (ts : List Sort) (i j : ℕ) → AllGrow g js ts → slice_get js i ≡ Some j → (t : Sort) × ((slice_get ts i ≡ Some t) × Grows g j t)
+pub tree-at : {g : Graph} (js : List ℕ) (ts : List Sort) (i j : ℕ) → AllUnfold g js ts → slice_get js i ≡ Some j → (t : Sort) × ((slice_get ts i ≡ Some t) × Unfolds g j t)
 tree-at [] [] i j nothing h = absurd (some-not-none j (sym h))
 tree-at [] (t ∷ ts) i j a h = elim a [ ]
 tree-at (k ∷ js) [] i j a h = elim a [ ]
-tree-at {g} (k ∷ js) (t ∷ ts) zero j (further a as') h = (t, (refl, subst (λ x. Grows g x t) (some-inj k j h) a))
+tree-at {g} (k ∷ js) (t ∷ ts) zero j (further a as') h = (t, (refl, subst (λ x. Unfolds g x t) (some-inj k j h) a))
 tree-at (k ∷ js) (t ∷ ts) (suc i) j (further a as') h = tree-at js ts i j as' h
 
-pub trees-length : {g : Graph} (js : List ℕ) (ts : List Sort) → AllGrow g js ts → length ts ≡ length js
+pub trees-length : {g : Graph} (js : List ℕ) (ts : List Sort) → AllUnfold g js ts → length ts ≡ length js
 trees-length [] [] nothing = refl
 trees-length [] (t ∷ ts) a = elim a [ ]
 trees-length (k ∷ js) [] a = elim a [ ]
@@ -114,18 +114,18 @@ leaf_fits budget depth t v b d e =
     ((omega arith, omega arith), omega arith)
 
 -- the loop over the arguments, where each has a tree
-pub turn : (g : Graph) (js : List ℕ) (left next budget depth i j : ℕ) → slice_get js i ≡ Some j → ((t : Sort) → Grows g j t → SomeIff (Some next) ((size_of t ≤ left) × (depth_of t ≤ depth - 1)) (left - size_of t)) → ((ts : List Sort) → AllGrow g js ts → Kept left budget depth i ts) → (ts : List Sort) → AllGrow g js ts → Kept next budget depth (i + 1) ts
+pub turn : (g : Graph) (js : List ℕ) (left next budget depth i j : ℕ) → slice_get js i ≡ Some j → ((t : Sort) → Unfolds g j t → SomeIff (Some next) ((size_of t ≤ left) × (depth_of t ≤ depth - 1)) (left - size_of t)) → ((ts : List Sort) → AllUnfold g js ts → Kept left budget depth i ts) → (ts : List Sort) → AllUnfold g js ts → Kept next budget depth (i + 1) ts
 turn g js left next budget depth i j h fits kept ts a =
     let t = tree-at js ts i j a h in
     kept_turn left next budget depth i ts t.0 (kept ts a) t.1.0 (fits t.0 t.1.1)
 
-pub all_turns : (g : Graph) (at : ℕ) (c : Sym) (js : List ℕ) (left budget depth i : ℕ) → head_at g at ≡ Some (Branch c js) → 0 < budget → 0 < depth → length js ≤ i → ((ts : List Sort) → AllGrow g js ts → Kept left budget depth i ts) → (t : Sort) → Grows g at t → ((size_of t ≤ budget) × (depth_of t ≤ depth)) × (left ≡ budget - size_of t)
+pub all_turns : (g : Graph) (at : ℕ) (c : Sym) (js : List ℕ) (left budget depth i : ℕ) → head_at g at ≡ Some (Branch c js) → 0 < budget → 0 < depth → length js ≤ i → ((ts : List Sort) → AllUnfold g js ts → Kept left budget depth i ts) → (t : Sort) → Unfolds g at t → ((size_of t ≤ budget) × (depth_of t ≤ depth)) × (left ≡ budget - size_of t)
 all_turns g at c js left budget depth i h b d out kept t a =
     let r = branch-tree c js h a in
     let l = trees-length js r.0 r.1.0 in
     kept_all left budget depth i r.0 t c b d (kept r.0 r.1.0) (omega arith) r.1.1
 
-pub turn_fails : (g : Graph) (at : ℕ) (c : Sym) (js : List ℕ) (left budget depth i j : ℕ) → head_at g at ≡ Some (Branch c js) → slice_get js i ≡ Some j → ((t : Sort) → Grows g j t → SomeIff None ((size_of t ≤ left) × (depth_of t ≤ depth - 1)) (left - size_of t)) → ((ts : List Sort) → AllGrow g js ts → Kept left budget depth i ts) → (t : Sort) → Grows g at t → (size_of t ≤ budget) × (depth_of t ≤ depth) → ⊥
+pub turn_fails : (g : Graph) (at : ℕ) (c : Sym) (js : List ℕ) (left budget depth i j : ℕ) → head_at g at ≡ Some (Branch c js) → slice_get js i ≡ Some j → ((t : Sort) → Unfolds g j t → SomeIff None ((size_of t ≤ left) × (depth_of t ≤ depth - 1)) (left - size_of t)) → ((ts : List Sort) → AllUnfold g js ts → Kept left budget depth i ts) → (t : Sort) → Unfolds g at t → (size_of t ≤ budget) × (depth_of t ≤ depth) → ⊥
 turn_fails g at c js left budget depth i j h k no_fit kept t a =
     let r = branch-tree c js h a in
     let s = tree-at js r.0 i j r.1.0 k in
@@ -137,7 +137,7 @@ part_depth [] i t h = absurd (some-not-none t (sym h))
 part_depth (u ∷ ts) zero t h = let e = ap depth_of (some-inj u t h) in omega arith
 part_depth (u ∷ ts) (suc i) t h = let r = part_depth ts i t h in omega arith
 
-pub child_tree : (g : Graph) (at : ℕ) (c : Sym) (js : List ℕ) (depth i j : ℕ) → head_at g at ≡ Some (Branch c js) → slice_get js i ≡ Some j → (t : Sort) × (Grows g at t × (depth_of t ≤ depth)) → (t : Sort) × (Grows g j t × (depth_of t ≤ depth - 1))
+pub child_tree : (g : Graph) (at : ℕ) (c : Sym) (js : List ℕ) (depth i j : ℕ) → head_at g at ≡ Some (Branch c js) → slice_get js i ≡ Some j → (t : Sort) × (Unfolds g at t × (depth_of t ≤ depth)) → (t : Sort) × (Unfolds g j t × (depth_of t ≤ depth - 1))
 child_tree g at c js depth i j h k t =
     let r = branch-tree c js h t.1.0 in
     let s = tree-at js r.0 i j r.1.0 k in
@@ -147,7 +147,7 @@ child_tree g at c js depth i j h k t =
     (s.0, (s.1.1, omega arith))
 
 -- the node that names the class of one with a tree
-pub head_is : (g : Graph) (at : ℕ) (t : Sort) (nodes : List Node) (cls : ℕ) (n : Node) → Grows g at t → nodes ≡ g.nodes → cls ≡ class_at g.class at → n ≡ get_or nodes cls n → head_at g at ≡ Some n
+pub head_is : (g : Graph) (at : ℕ) (t : Sort) (nodes : List Node) (cls : ℕ) (n : Node) → Unfolds g at t → nodes ≡ g.nodes → cls ≡ class_at g.class at → n ≡ get_or nodes cls n → head_at g at ≡ Some n
 head_is g at t nodes cls n a p q e = by a
   where
     same : (m : Node) → head_at g at ≡ Some m → head_at g at ≡ Some n
@@ -155,11 +155,11 @@ head_is g at t nodes cls n a p q e = by a
         let k : slice_get nodes cls ≡ Some m = (λ i. slice_get (p i) (q i)) ∙ h in
         h ∙ ap Some (sym (e ∙ get-or-get nodes cls n m k))
 
-    by : Grows g at t → head_at g at ≡ Some n
+    by : Unfolds g at t → head_at g at ≡ Some n
     by (leaf v h r) = same (Leaf v) h
     by (branch c js ts h b r) = same (Branch c js) h
 
-pub all_snoc : {g : Graph} (js : List ℕ) (ts : List Sort) (j : ℕ) (t : Sort) → AllGrow g js ts → Grows g j t → AllGrow g (js ++ j ∷ []) (ts ++ t ∷ [])
+pub all_snoc : {g : Graph} (js : List ℕ) (ts : List Sort) (j : ℕ) (t : Sort) → AllUnfold g js ts → Unfolds g j t → AllUnfold g (js ++ j ∷ []) (ts ++ t ∷ [])
 all_snoc [] [] j t nothing b = further b nothing
 all_snoc [] (u ∷ ts) j t a b = elim a [ ]
 all_snoc (k ∷ js) [] j t a b = elim a [ ]

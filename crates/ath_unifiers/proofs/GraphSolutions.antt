@@ -12,7 +12,7 @@ use Rattle.ath_sorts.specs.Sorts.{is_small, same_svar, image, apply_to, depth_of
 use Rattle.ath_sorts.specs.Substitutions.{entry_of}
 use Rattle.ath_unifiers.specs.Unifiers.{HasUnifier, IsLeastUnifier}
 use Rattle.ath_unifiers.specs.Order.{precedes, vars_read}
-use Rattle.ath_unifiers.specs.Graphs.{class_at, head_at, Respects, IsGraph, LeafFree, Grows, leaf, branch, HasTrees, IsOrdered, stands_before, Solves, IsSolution, HasSmallImages, HasLargeImage}
+use Rattle.ath_unifiers.specs.Graphs.{class_at, head_at, Respects, IsGraph, LeafFree, Unfolds, leaf, branch, HasTrees, IsOrdered, stands_before, Solves, IsSolution, HasSmallImages, HasLargeImage}
 use Rattle.ath_sorts.proofs.Gets.{get-there, get-within, some-inj, some-not-none}
 use Rattle.ath_unifiers.proofs.GraphTrees.{leaf-inj, leaf-not-branch, tree-value, trees-respected}
 use Rattle.ath_unifiers.proofs.GraphValues.{value-leaf}
@@ -55,24 +55,24 @@ module _ (g : Graph) (is_graph : IsGraph g) (n : ℕ) (s : List (SVar × Sort)) 
       | inl p ↦ h.maps i w p q
       | inr p ↦
           let same : v ≡ w = leaf-inj v w (sym k ∙ ap (slice_get g.nodes) (sym p) ∙ q) in
-          let own : Grows g n (image s v) = leaf v (ap (slice_get g.nodes) named ∙ k) (image-none s v (unmapped v k)) in
-          subst (λ x. Grows g x (image s w)) (sym p) (subst (λ x. Grows g n (image s x)) same own)
+          let own : Unfolds g n (image s v) = leaf v (ap (slice_get g.nodes) named ∙ k) (image-none s v (unmapped v k)) in
+          subst (λ x. Unfolds g x (image s w)) (sym p) (subst (λ x. Unfolds g n (image s x)) same own)
     ];
     others = λ w no_node. h.others w (λ i l q. no_node i (omega arith) q);
     moves = h.moves;
   }
 
-  pub solution_maps : (v : SVar) (t : Sort) → slice_get g.nodes n ≡ Some (Leaf v) → (class_at g.class n ≡ n → ⊥) → Grows g n t → IsSolution g (n + 1) (s ++ (v, t) ∷ [])
+  pub solution_maps : (v : SVar) (t : Sort) → slice_get g.nodes n ≡ Some (Leaf v) → (class_at g.class n ≡ n → ⊥) → Unfolds g n t → IsSolution g (n + 1) (s ++ (v, t) ∷ [])
   solution_maps v t k moved a =
       let none = unmapped v k in
       record {
         maps = λ i w l q. elim (below_or_last i n l) [
           | inl p ↦
               let apart : v ≡ w → ⊥ = λ e. let z = is_graph.distinct i n w q (k ∙ ap (λ x. Some (Leaf x)) e) in omega arith in
-              subst (Grows g i) (sym (image-kept s v t w apart)) (h.maps i w p q)
+              subst (Unfolds g i) (sym (image-kept s v t w apart)) (h.maps i w p q)
           | inr p ↦
               let same : v ≡ w = leaf-inj v w (sym k ∙ ap (slice_get g.nodes) (sym p) ∙ q) in
-              subst (λ x. Grows g x (image (s ++ (v, t) ∷ []) w)) (sym p) (subst (λ x. Grows g n (image (s ++ (v, t) ∷ []) x)) same (subst (Grows g n) (sym (image-new s v t none)) a))
+              subst (λ x. Unfolds g x (image (s ++ (v, t) ∷ []) w)) (sym p) (subst (λ x. Unfolds g n (image (s ++ (v, t) ∷ []) x)) same (subst (Unfolds g n) (sym (image-new s v t none)) a))
         ];
         others = λ w no_node. entry-other s v t w (λ e. no_node n (omega arith) (k ∙ ap (λ x. Some (Leaf x)) e)) (h.others w (λ i l q. no_node i (omega arith) q));
         moves = λ w e. elim (opt_cases (entry_of s w)) [
@@ -80,7 +80,7 @@ module _ (g : Graph) (is_graph : IsGraph g) (n : ℕ) (s : List (SVar × Sort)) 
             | inl q ↦
                 let same = same_svar-true v w q in
                 let is : t ≡ Var w = some-inj t (Var w) (sym (entry-absent s (v, t) w p ∙ ap (λ b. cond b (Some t) None) q) ∙ e) in
-                not_own v k moved (subst (Grows g n) (is ∙ ap Var (sym same)) a)
+                not_own v k moved (subst (Unfolds g n) (is ∙ ap Var (sym same)) a)
             | inr q ↦ some-not-none (Var w) (sym e ∙ entry-absent s (v, t) w p ∙ ap (λ b. cond b (Some t) None) q)
           ]
           | inr p ↦ h.moves w (p.1 ∙ sym (entry-kept s (v, t) w p.0 p.1) ∙ e)
@@ -90,7 +90,7 @@ module _ (g : Graph) (is_graph : IsGraph g) (n : ℕ) (s : List (SVar × Sort)) 
       own : (v : SVar) → slice_get g.nodes n ≡ Some (Leaf v) → (u : SVar) → head_at g n ≡ Some (Leaf u) → Var v ≡ Var u → class_at g.class n ≡ n
       own v k u q e = is_graph.distinct (class_at g.class n) n v (q ∙ ap (λ x. Some (Leaf x)) (sym (Var-inj v u e))) k
 
-      not_own : (v : SVar) → slice_get g.nodes n ≡ Some (Leaf v) → (class_at g.class n ≡ n → ⊥) → Grows g n (Var v) → ⊥
+      not_own : (v : SVar) → slice_get g.nodes n ≡ Some (Leaf v) → (class_at g.class n ≡ n → ⊥) → Unfolds g n (Var v) → ⊥
       not_own v k moved (leaf u q e) = moved (own v k u q e)
       not_own v k moved (branch c js ts q b e) = Var-not-Con v c ts e
 
@@ -150,7 +150,7 @@ before_precedes read g o i j (Made m) (Written b) h k p = absurd (true-not-false
 before_precedes read g o i j (Made m) (Made n) h k p = p
 
 module _ (g : Graph) (pairs : List (Sort × Sort)) (solves : Solves g pairs) (s : List (SVar × Sort)) (h : IsSolution g (length g.nodes) s) where
-  maps_all : (i : ℕ) (v : SVar) → slice_get g.nodes i ≡ Some (Leaf v) → Grows g i (image s v)
+  maps_all : (i : ℕ) (v : SVar) → slice_get g.nodes i ≡ Some (Leaf v) → Unfolds g i (image s v)
   maps_all i v k = h.maps i v (get-within g.nodes i (Leaf v) k) k
 
   respected : Respects (image s) g
@@ -172,7 +172,7 @@ module _ (g : Graph) (pairs : List (Sort × Sort)) (solves : Solves g pairs) (s 
     | inr p ↦ inr (before_precedes (vars_read pairs) g solves.stands.ordered (class_at g.class i) i w v q k p)
   ]
 
-  least_grown : (i : ℕ) (v w : SVar) (t : Sort) → slice_get g.nodes i ≡ Some (Leaf v) → Grows g i t → t ≡ Var w → (v ≡ w) ⊎ IsTrue (precedes (vars_read pairs) w v)
+  least_grown : (i : ℕ) (v w : SVar) (t : Sort) → slice_get g.nodes i ≡ Some (Leaf v) → Unfolds g i t → t ≡ Var w → (v ≡ w) ⊎ IsTrue (precedes (vars_read pairs) w v)
   least_grown i v w t k (leaf u q p) e = least_of i v w k (q ∙ ap (λ x. Some (Leaf x)) (Var-inj u w (sym p ∙ e)))
   least_grown i v w t k (branch c js ts q b p) e = absurd (Var-not-Con w c ts (sym e ∙ p))
 

@@ -8,7 +8,7 @@ use Rattle.ath_sorts.specs.declared.sorts.Sort.{Sort, Var}
 use Rattle.ath_sorts.specs.Sorts.{same_svar, image, apply_to, occurs}
 use Rattle.ath_unifiers.specs.Unifiers.{Unifies}
 use Rattle.ath_sorts.specs.Equality.{same_sort}
-use Rattle.ath_unifiers.specs.Order.{joined, vars_of, vars_read}
+use Rattle.ath_unifiers.specs.Order.{concatenated, vars_of, vars_read}
 use Rattle.ath_sorts.proofs.Bools.{bool_cases, either_of, either_to, true-not-false}
 use Rattle.ath_sorts.proofs.SameSorts.{same_sort-true}
 use Rattle.ath_unifiers.proofs.VariableLaws.{vars-var, vars-con}
@@ -34,11 +34,11 @@ module _ (u : SVar) where
   abbrev IsListed : Sort → Type 0
   IsListed s = occurs u s ≡ true → is_in (vars_of s) u ≡ true
 
-  among_listed : (args : List Sort) → AllByRecursion IsListed args → list_any (occurs u) args ≡ true → is_in (joined (map vars_of args)) u ≡ true
+  among_listed : (args : List Sort) → AllByRecursion IsListed args → list_any (occurs u) args ≡ true → is_in (concatenated (map vars_of args)) u ≡ true
   among_listed [] h e = absurd (cc)
   among_listed (s ∷ ss) h e = elim (either_of (occurs u s) (list_any (occurs u) ss) e) [
-    | inl p ↦ in_left (vars_of s) (joined (map vars_of ss)) u (h.0 p)
-    | inr p ↦ in_right (vars_of s) (joined (map vars_of ss)) u (among_listed ss h.1 p)
+    | inl p ↦ in_left (vars_of s) (concatenated (map vars_of ss)) u (h.0 p)
+    | inr p ↦ in_right (vars_of s) (concatenated (map vars_of ss)) u (among_listed ss h.1 p)
   ]
 
   listed : (s : Sort) → IsListed s

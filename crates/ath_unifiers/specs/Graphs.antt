@@ -11,7 +11,7 @@ use Rattle.ath_sorts.specs.declared.sorts.Sym.{Sym}
 use Rattle.ath_sorts.specs.Sorts.{is_small, same_svar, image, apply_to}
 use Rattle.ath_sorts.specs.Substitutions.{entry_of}
 use Rattle.ath_unifiers.specs.Unifiers.{Unifies, HasUnifier, MovesAll}
-use Rattle.ath_unifiers.specs.Order.{comes_first, joined, vars_of, vars_read}
+use Rattle.ath_unifiers.specs.Order.{comes_first, concatenated, vars_of, vars_read}
 pub use Rattle.ath_unifiers.specs.Partitions.{class_at, rename}
 pub use Rattle.ath_unifiers.specs.Places.{LeafFree}
 
@@ -82,16 +82,16 @@ IsClosed g = (i : ℕ) → i < length g.nodes → AgreesAt g i
 
 -- the tree of a node: what the names of the classes give from it
 mutual
-  pub data Grows (g : Graph) : ℕ → Sort → Type 0 where
-    leaf : {i : ℕ} {t : Sort} (v : SVar) → head_at g i ≡ Some (Leaf v) → t ≡ Var v → Grows g i t
-    branch : {i : ℕ} {t : Sort} (c : Sym) (js : List ℕ) (ts : List Sort) → head_at g i ≡ Some (Branch c js) → AllGrow g js ts → t ≡ Con c ts → Grows g i t
+  pub data Unfolds (g : Graph) : ℕ → Sort → Type 0 where
+    leaf : {i : ℕ} {t : Sort} (v : SVar) → head_at g i ≡ Some (Leaf v) → t ≡ Var v → Unfolds g i t
+    branch : {i : ℕ} {t : Sort} (c : Sym) (js : List ℕ) (ts : List Sort) → head_at g i ≡ Some (Branch c js) → AllUnfold g js ts → t ≡ Con c ts → Unfolds g i t
 
-  pub data AllGrow (g : Graph) : List ℕ → List Sort → Type 0 where
-    nothing : AllGrow g [] []
-    further : {j : ℕ} {js : List ℕ} {t : Sort} {ts : List Sort} → Grows g j t → AllGrow g js ts → AllGrow g (j ∷ js) (t ∷ ts)
+  pub data AllUnfold (g : Graph) : List ℕ → List Sort → Type 0 where
+    nothing : AllUnfold g [] []
+    further : {j : ℕ} {js : List ℕ} {t : Sort} {ts : List Sort} → Unfolds g j t → AllUnfold g js ts → AllUnfold g (j ∷ js) (t ∷ ts)
 
 abbrev pub HasTree : Graph → ℕ → Type 0
-HasTree g i = (t : Sort) × Grows g i t
+HasTree g i = (t : Sort) × Unfolds g i t
 
 abbrev pub HasTrees : Graph → Type 0
 HasTrees g = (i : ℕ) → i < length g.nodes → HasTree g i
@@ -127,7 +127,7 @@ pub record AddsSort (old new : Graph) (sort : Sort) (i : ℕ) : Type 0 where
   pub is_value : (f : SVar → Sort) → value f new.nodes i ≡ apply_to f sort
 
 pub record AddsSorts (old new : Graph) (sorts : List Sort) (is : List ℕ) : Type 0 where
-  pub grows : GraphGrows old new (joined (map vars_of sorts))
+  pub grows : GraphGrows old new (concatenated (map vars_of sorts))
   pub within : AllByRecursion (λ i. i < length new.nodes) is
   pub are_values : (f : SVar → Sort) → map (value f new.nodes) is ≡ map (apply_to f) sorts
 
@@ -253,13 +253,13 @@ MatchEquated g pairs false = HasUnifier pairs → ⊥
 
 -- the map sends each variable among the first n nodes to its tree
 pub record IsSolution (g : Graph) (n : ℕ) (s : List (SVar × Sort)) : Type 0 where
-  pub maps : (i : ℕ) (v : SVar) → i < n → slice_get g.nodes i ≡ Some (Leaf v) → Grows g i (image s v)
+  pub maps : (i : ℕ) (v : SVar) → i < n → slice_get g.nodes i ≡ Some (Leaf v) → Unfolds g i (image s v)
   pub others : (v : SVar) → ((i : ℕ) → i < n → slice_get g.nodes i ≡ Some (Leaf v) → ⊥) → entry_of s v ≡ None
   pub moves : MovesAll s
 
 -- the tree of each variable is within the limits
 abbrev pub HasSmallImages : Graph → Type 0
-HasSmallImages g = (i : ℕ) (v : SVar) (t : Sort) → slice_get g.nodes i ≡ Some (Leaf v) → Grows g i t → IsTrue (is_small t)
+HasSmallImages g = (i : ℕ) (v : SVar) (t : Sort) → slice_get g.nodes i ≡ Some (Leaf v) → Unfolds g i t → IsTrue (is_small t)
 
 abbrev pub HasLargeImage : Graph → Type 0
-HasLargeImage g = (i : ℕ) × ((v : SVar) × ((slice_get g.nodes i ≡ Some (Leaf v)) × ((t : Sort) → Grows g i t → is_small t ≡ false)))
+HasLargeImage g = (i : ℕ) × ((v : SVar) × ((slice_get g.nodes i ≡ Some (Leaf v)) × ((t : Sort) → Unfolds g i t → is_small t ≡ false)))

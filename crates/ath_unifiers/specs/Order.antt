@@ -8,13 +8,13 @@ use Rattle.ath_sorts.specs.declared.sorts.Sort.TheFolds.{fold-Sort}
 use Rattle.ath_sorts.specs.Sorts.{same_svar}
 use Rattle.ath_sorts.specs.Equality.{same_sort}
 
-abbrev pub joined : List (List SVar) → List SVar
-joined [] = []
-joined (vs ∷ vss) = vs ++ joined vss
+abbrev pub concatenated : List (List SVar) → List SVar
+concatenated [] = []
+concatenated (vs ∷ vss) = vs ++ concatenated vss
 
 abbrev pub vars_step : one.Sort-F (List SVar) → List SVar
 vars_step (one.Var v) = v ∷ []
-vars_step (one.Con c vss) = joined vss
+vars_step (one.Con c vss) = concatenated vss
 
 -- the variables of a sort from the left, as often as they occur
 abbrev pub vars_of : Sort → List SVar

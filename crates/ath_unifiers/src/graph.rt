@@ -7,7 +7,7 @@
 ghost use Rattle.std.specs.Prelude.{◌≡◌, ◌+◌, ◌-◌, ◌<◌, ◌≤◌, ◌++◌, ◌∷◌, [], IsTrue, IfOk, OnOk, List, length, map, slice_get, SomeIff, MatchBool, MatchOption, false, Some, None};
 ghost use Rattle.std.specs.List.{list_all, zip};
 ghost use Rattle.ath_sorts.specs.Sorts.{size_of, depth_of, is_small};
-ghost use Rattle.ath_unifiers.specs.Graphs.{AddsSort, Grows, HasLargeImage, HasSmallImages, HasTrees, IsClosed, IsGraph, IsNoBranch, IsNoLeaf, IsSolution, IsStuck, IsStuckAt, MarksTrees, MatchAcyclic, MatchArguments, MatchEquated, MatchJoined, MatchUnited, Stands, is_marked, is_ready, names_class, stands_before, unmarked};
+ghost use Rattle.ath_unifiers.specs.Graphs.{AddsSort, Unfolds, HasLargeImage, HasSmallImages, HasTrees, IsClosed, IsGraph, IsNoBranch, IsNoLeaf, IsSolution, IsStuck, IsStuckAt, MarksTrees, MatchAcyclic, MatchArguments, MatchEquated, MatchJoined, MatchUnited, Stands, is_marked, is_ready, names_class, stands_before, unmarked};
 ghost use Rattle.ath_sorts.specs.declared.sorts.Sort.{Sort};
 
 use crate::nodes::{Node, Nodes};
@@ -193,7 +193,7 @@ impl Graph {
 
     /// Whether the node's tree is within the limits.
     fn is_small(&self, at: usize) -> bool
-        ensures { (t : Sort) → Grows self.now at t → result ≡ is_small t }
+        ensures { (t : Sort) → Unfolds self.now at t → result ≡ is_small t }
     {
         self.nodes_left(at, MOST_NODES, MOST_DEPTH).is_some()
     }
@@ -237,8 +237,8 @@ impl Graph {
     }
 
     fn tree(&self, alloc: Global, at: usize, depth: usize) -> Result<Sort, AllocError>
-        requires { (t : Sort) × (Grows self.now at t × (depth_of t ≤ depth)) }
-        ensures { IfOk result (Grows self.now at) }
+        requires { (t : Sort) × (Unfolds self.now at t × (depth_of t ≤ depth)) }
+        ensures { IfOk result (Unfolds self.now at) }
     {
         match &self.nodes.as_slice()[self.class.class_of(at)] {
             Node::Leaf(v) => Ok(Sort::Var(*v)),
@@ -256,7 +256,7 @@ impl Graph {
 
     /// What a budget of nodes leaves after those of the node's tree, or None where it or the depth doesn't suffice.
     fn nodes_left(&self, at: usize, budget: usize, depth: usize) -> Option<usize>
-        ensures { (t : Sort) → Grows self.now at t → SomeIff result ((size_of t ≤ budget) × (depth_of t ≤ depth)) (budget - size_of t) }
+        ensures { (t : Sort) → Unfolds self.now at t → SomeIff result ((size_of t ≤ budget) × (depth_of t ≤ depth)) (budget - size_of t) }
     {
         if budget == 0 || depth == 0 {
             return None;

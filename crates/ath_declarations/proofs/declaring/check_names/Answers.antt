@@ -2,7 +2,7 @@ use Rattle.std.proofs.Common.{◌≡◌, ◌<◌, length, get_or, Err, sym, subs
 use Rattle.std.proofs.lemmas.Grind.{common_steps}
 use Rattle.ath_sorts.specs.Declaring.{symbol_fault}
 use Rattle.ath_declarations.specs.declared.declaring.DeclareError.TheVariants.{Flawed}
-use Rattle.ath_declarations.specs.Declarations.{joined}
+use Rattle.ath_declarations.specs.Declarations.{with_symbols}
 use Rattle.ath_declarations.proofs.Joins.{Tells, tested, first_refused, test_refused}
 use Rattle.ath_declarations.proofs.declaring.check_names.Goals as goal
 
@@ -20,7 +20,7 @@ returns-in-Some c =
     let some : 0 < length c.args.names.now = grind (arith, common_steps) in
     let p = c.deref.ensures.value in
     let q = c.deref-2.ensures.value in
-    subst (λ f. Tells c.args.shape.now.params.items c.args.shape.now.args.items c.args.shape.now.result f (joined c.args.sig.now c.args.names.now c.args.shape.now.params.items c.args.shape.now.args.items c.args.shape.now.result))
+    subst (λ f. Tells c.args.shape.now.params.items c.args.shape.now.args.items c.args.shape.now.result f (with_symbols c.args.sig.now c.args.names.now c.args.shape.now.params.items c.args.shape.now.args.items c.args.shape.now.result))
     (sym c.in_ok-name.ensures ∙ c.in-Some.is)
     (tested c.args.shape.now.params.items c.args.shape.now.args.items c.args.shape.now.result c.args.sig.now c.args.names.now (record { 0 = 0 }) some
     (sym (λ i. symbol_fault c.args.sig.now (get_or c.args.names.now 0 (record { 0 = 0 })) (p i) (q i) c.args.shape.now.result) ∙ c.in_ok-check_symbol.ensures))
@@ -30,7 +30,7 @@ returns-in-None c =
     let some : 0 < length c.args.names.now = grind (arith, common_steps) in
     let p = c.deref.ensures.value in
     let q = c.deref-2.ensures.value in
-    subst (λ f. Tells c.args.shape.now.params.items c.args.shape.now.args.items c.args.shape.now.result f (joined c.args.sig.now c.args.names.now c.args.shape.now.params.items c.args.shape.now.args.items c.args.shape.now.result))
+    subst (λ f. Tells c.args.shape.now.params.items c.args.shape.now.args.items c.args.shape.now.result f (with_symbols c.args.sig.now c.args.names.now c.args.shape.now.params.items c.args.shape.now.args.items c.args.shape.now.result))
     (sym c.in_ok-name.ensures ∙ c.in-None.is)
     (tested c.args.shape.now.params.items c.args.shape.now.args.items c.args.shape.now.result c.args.sig.now c.args.names.now (record { 0 = 0 }) some
     (sym (λ i. symbol_fault c.args.sig.now (get_or c.args.names.now 0 (record { 0 = 0 })) (p i) (q i) c.args.shape.now.result) ∙ c.in_ok-check_symbol.ensures))

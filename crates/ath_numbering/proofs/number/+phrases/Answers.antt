@@ -5,7 +5,7 @@ use Rattle.ath_numbering.specs.declared.tree.PhraseTree.{PhraseTree}
 use Rattle.ath_numbering.specs.Trees.{phrase_of, phrases_of}
 use Rattle.ath_numbering.specs.declared.tree.PhraseTree.TheFolds.{the_lemmas}
 use Rattle.ath_numbering.proofs.tree.PhraseTree.TheLaws.{the_size}
-use Rattle.ath_syntax.proofs.Growth.{Grows-trans}
+use Rattle.ath_syntax.proofs.Growth.{KeepsNodes-trans}
 use Rattle.ath_syntax.proofs.Kept.{keep_phrase, keep_pattern_number}
 use Rattle.ath_syntax.specs.Proper.{ProperPhrases, ProperBindings, ProperClauses, ProperBranches}
 use Rattle.ath_numbering.proofs.Depths.{most_phrases, most_bindings, most_clauses, most_branches, deeper}
@@ -62,7 +62,7 @@ number_clauses-number_phrase-requires t c =
     (omega (arith, smaller), (proper_clause_among c.requires.0 _ _ (c.in-Some.pattern, c.in-Some.tree) (subst (λ (cs : List (PatternTree × PhraseTree)). ProperClauses c.requires.0 (clauses_read cs)) split c.requires.1)).1)
 
 pub number_clauses-loop-pattern-preserved : goal.number_clauses-loop-pattern-preserved
-number_clauses-loop-pattern-preserved t c = rw c.in_ok-push.ensures.items (Taken-more clauses_listed _ _ _ _ _ _ _ _ _ c.loop-pattern.invariant c.in-Some.ensures (Grows-trans c.number_pattern.ensures.kept c.number_phrase.ensures.kept) (keep_pattern_number _ _ c.number_phrase.ensures.kept _ _ c.in_ok-pattern.ensures.stands, c.in_ok-phrase.ensures.stands))
+number_clauses-loop-pattern-preserved t c = rw c.in_ok-push.ensures.items (Taken-more clauses_listed _ _ _ _ _ _ _ _ _ c.loop-pattern.invariant c.in-Some.ensures (KeepsNodes-trans c.number_pattern.ensures.kept c.number_phrase.ensures.kept) (keep_pattern_number _ _ c.number_phrase.ensures.kept _ _ c.in_ok-pattern.ensures.stands, c.in_ok-phrase.ensures.stands))
 
 pub number_branches-loop-condition-init : goal.number_branches-loop-condition-init
 number_branches-loop-condition-init t c = rw c.new-numbers.ensures.items (Taken-none branches_listed _ _)
@@ -80,4 +80,4 @@ number_branches-number_phrase-requires-in-Some t c =
     (omega (arith, smaller), (proper_branch_among c.requires.0 _ _ (c.in-Some.condition, c.in-Some.body) (subst (λ (bs : List (PhraseTree × PhraseTree)). ProperBranches c.requires.0 (branches_read bs)) split c.requires.1)).1)
 
 pub number_branches-loop-condition-preserved : goal.number_branches-loop-condition-preserved
-number_branches-loop-condition-preserved t c = rw c.in_ok-push.ensures.items (Taken-more branches_listed _ _ _ _ _ _ _ _ _ c.loop-condition.invariant c.in-Some.ensures (Grows-trans c.number_phrase.ensures.kept c.number_phrase-in-Some.ensures.kept) (keep_phrase _ _ c.number_phrase-in-Some.ensures.kept _ _ c.in_ok-condition.ensures.stands, c.in_ok-body.ensures.stands))
+number_branches-loop-condition-preserved t c = rw c.in_ok-push.ensures.items (Taken-more branches_listed _ _ _ _ _ _ _ _ _ c.loop-condition.invariant c.in-Some.ensures (KeepsNodes-trans c.number_phrase.ensures.kept c.number_phrase-in-Some.ensures.kept) (keep_phrase _ _ c.number_phrase-in-Some.ensures.kept _ _ c.in_ok-condition.ensures.stands, c.in_ok-body.ensures.stands))

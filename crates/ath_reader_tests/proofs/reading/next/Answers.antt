@@ -1,6 +1,6 @@
 use Rattle.std.proofs.Common.{Option, Ok, subst}
 use Rattle.ath_syntax.specs.declared.directive.Directive.{Directive}
-use Rattle.ath_names.proofs.NamesLaws.{Grows-trans}
+use Rattle.ath_names.proofs.NamesLaws.{KeepsNames-trans}
 use Rattle.ath_reader.specs.Answering.{Answers}
 use Rattle.ath_reader_tests.proofs.Standing.{answers_stand}
 use Rattle.ath_reader_tests.proofs.reading.next.Goals as goal

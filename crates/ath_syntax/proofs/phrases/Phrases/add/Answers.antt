@@ -1,5 +1,5 @@
 use Rattle.std.proofs.Common.{rules, ◌≡◌, length}
-use Rattle.ath_syntax.proofs.Growth.{Grows-phrase}
+use Rattle.ath_syntax.proofs.Growth.{KeepsNodes-phrase}
 use Rattle.ath_syntax.proofs.NodeLaws.{phrase_of_new}
 use Rattle.ath_syntax.proofs.Fitting.{NodesFit-phrase}
 use Rattle.ath_syntax.proofs.phrases.Phrases.add.Goals as goal
@@ -13,4 +13,4 @@ returns-clause-stands c =
     λ t. rw (c.in_ok-push.ensures.items, ← c.self.view_is) (phrase_of_new _ c.args.node t _ (rw c.self.view_is c.requires) e)
 
 pub returns-clause-kept : goal.returns-clause-kept
-returns-clause-kept c = rw (c.in_ok-push.ensures.items, ← c.self.view_is) (Grows-phrase _ _)
+returns-clause-kept c = rw (c.in_ok-push.ensures.items, ← c.self.view_is) (KeepsNodes-phrase _ _)

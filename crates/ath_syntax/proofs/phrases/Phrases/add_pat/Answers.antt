@@ -1,7 +1,7 @@
 use Rattle.std.proofs.Common.{rules, ◌≡◌, length, subst, sym}
 use Rattle.ath_syntax.specs.Nodes.{Nodes}
 use Rattle.ath_syntax.specs.Fits.{PatternFits}
-use Rattle.ath_syntax.proofs.Growth.{Grows-pattern}
+use Rattle.ath_syntax.proofs.Growth.{KeepsNodes-pattern}
 use Rattle.ath_syntax.proofs.NodeLaws.{pattern_of_new}
 use Rattle.ath_syntax.proofs.Fitting.{NodesFit-pattern}
 use Rattle.ath_syntax.proofs.phrases.Phrases.add_pat.Goals as goal
@@ -15,4 +15,4 @@ returns-clause-stands c =
     λ t. rw (c.in_ok-push.ensures.items, ← c.self.view_is) (pattern_of_new _ c.args.node t _ e)
 
 pub returns-clause-kept : goal.returns-clause-kept
-returns-clause-kept c = rw (c.in_ok-push.ensures.items, ← c.self.view_is) (Grows-pattern _ _)
+returns-clause-kept c = rw (c.in_ok-push.ensures.items, ← c.self.view_is) (KeepsNodes-pattern _ _)

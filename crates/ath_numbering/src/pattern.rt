@@ -29,7 +29,6 @@ pub fn number_pattern(
 
 // The node of a pattern, whose parts are numbered.
 #[cycle(patterns)]
-#[tactic(auto, using(crate::proofs::PatternLaws::any_node, crate::proofs::PatternLaws::name_node, crate::proofs::PatternLaws::string_node, crate::proofs::PatternLaws::list_node, crate::proofs::PatternLaws::list_of_node, crate::proofs::PatternLaws::app_node, crate::proofs::PatternLaws::some_node))]
 fn pattern_node(
     alloc: Global,
     phrases: &mut Phrases,

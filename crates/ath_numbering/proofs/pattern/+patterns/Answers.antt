@@ -3,22 +3,22 @@ use Rattle.ath_numbering.specs.Trees.{pattern_of, patterns_of}
 use Rattle.ath_numbering.specs.declared.tree.PatternTree.{PatternTree}
 use Rattle.ath_numbering.proofs.tree.PatternTree.TheLaws.{the_size}
 use Rattle.ath_syntax.specs.Proper.{ProperPatterns}
-use Rattle.ath_syntax.proofs.Growth.{Grows-refl, Grows-trans}
+use Rattle.ath_syntax.proofs.Growth.{KeepsNodes-refl, KeepsNodes-trans}
 use Rattle.ath_numbering.proofs.Listings.{Taken-none, Taken-more, Taken-split, Taken-smaller}
 use Rattle.ath_numbering.proofs.PatternLaws.{any_node, name_node, string_node, list_node, list_of_node, app_node, some_node, pattern_fits, proper_among, patterns_listed}
 use Rattle.ath_numbering.proofs.pattern.+patterns.Goals as goal
 
 pub number_pattern-returns : goal.number_pattern-returns
-number_pattern-returns t c = record { stands = c.in_ok-number.ensures.stands _ c.in_ok-node.ensures.stands; kept = Grows-trans c.pattern_node.ensures.kept c.add_pat.ensures.kept }
+number_pattern-returns t c = record { stands = c.in_ok-number.ensures.stands _ c.in_ok-node.ensures.stands; kept = KeepsNodes-trans c.pattern_node.ensures.kept c.add_pat.ensures.kept }
 
 pub pattern_node-returns-in-Any : goal.pattern_node-returns-in-Any
-pattern_node-returns-in-Any t c = record { stands = any_node _ _ c.in-Any.is; kept = Grows-refl _ }
+pattern_node-returns-in-Any t c = record { stands = any_node _ _ c.in-Any.is; kept = KeepsNodes-refl _ }
 
 pub pattern_node-returns-in-Name : goal.pattern_node-returns-in-Name
-pattern_node-returns-in-Name t c = record { stands = name_node _ _ _ c.in-Name.is; kept = Grows-refl _ }
+pattern_node-returns-in-Name t c = record { stands = name_node _ _ _ c.in-Name.is; kept = KeepsNodes-refl _ }
 
 pub pattern_node-returns-in-Str : goal.pattern_node-returns-in-Str
-pattern_node-returns-in-Str t c = record { stands = string_node _ _ _ c.in-Str.is; kept = Grows-refl _ }
+pattern_node-returns-in-Str t c = record { stands = string_node _ _ _ c.in-Str.is; kept = KeepsNodes-refl _ }
 
 pub pattern_node-returns-in_ok-parts-in-List : goal.pattern_node-returns-in_ok-parts-in-List
 pattern_node-returns-in_ok-parts-in-List t c = record { stands = list_node _ _ _ _ c.in-List.is c.in_ok-parts-in-List.ensures.stands; kept = c.number_patterns.ensures.kept }
@@ -26,14 +26,14 @@ pattern_node-returns-in_ok-parts-in-List t c = record { stands = list_node _ _ _
 pub pattern_node-returns-in_ok-rest-in-ListOf : goal.pattern_node-returns-in_ok-rest-in-ListOf
 pattern_node-returns-in_ok-rest-in-ListOf t c = record {
   stands = list_of_node _ _ _ _ _ _ _ _ _ c.in-ListOf.is c.into_inner.ensures c.into_inner-in-ListOf.ensures c.in_ok-first-in-ListOf.ensures.stands c.number_pattern-in-ListOf.ensures.kept c.in_ok-rest-in-ListOf.ensures.stands;
-  kept = Grows-trans c.number_pattern.ensures.kept c.number_pattern-in-ListOf.ensures.kept;
+  kept = KeepsNodes-trans c.number_pattern.ensures.kept c.number_pattern-in-ListOf.ensures.kept;
 }
 
 pub pattern_node-returns-in_ok-parts-in-App : goal.pattern_node-returns-in_ok-parts-in-App
 pattern_node-returns-in_ok-parts-in-App t c = record { stands = app_node _ _ _ _ _ c.in-App.is c.in_ok-parts-in-App.ensures.stands; kept = c.number_patterns-in-App.ensures.kept }
 
 pub pattern_node-returns-in-SomeOf : goal.pattern_node-returns-in-SomeOf
-pattern_node-returns-in-SomeOf t c = record { stands = some_node _ _ _ _ c.in-SomeOf.is; kept = Grows-refl _ }
+pattern_node-returns-in-SomeOf t c = record { stands = some_node _ _ _ _ c.in-SomeOf.is; kept = KeepsNodes-refl _ }
 
 pub number_pattern-add_pat-requires : goal.number_pattern-add_pat-requires
 number_pattern-add_pat-requires t c = pattern_fits _ _ _ c.in_ok-node.ensures.stands c.requires

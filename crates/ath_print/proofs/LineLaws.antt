@@ -56,9 +56,13 @@ unseen_output (Kept text) seen = refl
 unseen_output (Room room) seen = refl
 unseen_output Full seen = refl
 
-pub ended : (o p : Output) (seen : List SVar) (text end : List ℕ) (mid : Line) → unseen mid ≡ after (word text) (line_from o []) → line_from p seen ≡ after (word end) mid → line_from p [] ≡ after (word (text ++ end)) (line_from o [])
-ended o p seen text end mid h k =
-    sym (unseen_output p seen) ∙ ap unseen k ∙ after_unseen end mid ∙ ap (after (word end)) h ∙ after_words text end (line_from o [])
+pub ended : (o p : Output) (start seen : List SVar) (text end : List ℕ) (mid : Line) → start ≡ [] → unseen mid ≡ after (word text) (line_from o start) → line_from p seen ≡ after (word end) mid → line_from p [] ≡ after (word (text ++ end)) (line_from o [])
+ended o p start seen text end mid empty h k =
+    sym (unseen_output p seen)
+    ∙ ap unseen k
+    ∙ after_unseen end mid
+    ∙ ap (after (word end)) (h ∙ ap (λ s. after (word text) (line_from o s)) empty)
+    ∙ after_words text end (line_from o [])
 
 -- ---- a sort variable, with its number
 pub variable_done : (p : Printer) (o : Output) (seen next : List SVar) (a b : List ℕ) (mid new : Line) → p seen ≡ record { text = a ++ b; seen = next } → mid ≡ after (word a) (line_from o next) → new ≡ after (word b) mid → new ≡ after p (line_from o seen)

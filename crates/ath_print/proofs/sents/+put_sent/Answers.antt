@@ -26,7 +26,7 @@ returns-in_ok-put-in-Quant-clause-text t c =
 pub returns-in_ok-put_equation-in-Eq-clause-text : goal.returns-in_ok-put_equation-in-Eq-clause-text
 returns-in_ok-put_equation-in-Eq-clause-text t c =
     let binders = map (λ b. b.now) c.args.binders.now.items in
-    equation_done c.args.names.now c.args.sig.now binders c.args.store.now c.args.p.0 c.sent.result.now (length c.args.store.now.terms) c.args.p.0 c.sent.ensures.tree c.sent.ensures.below c.in-Eq.s c.in-Eq.t _ _ _ c.in-Eq.is (ap (map (λ b. b.now)) c.as_slice-in-Eq.ensures.value) c.in_ok-put_equation.ensures
+    equation_done c.args.names.now c.args.sig.now binders c.args.store.now c.args.p.0 c.sent.result.now (length c.args.store.now.terms) c.args.p.0 c.sent.ensures.tree c.sent.ensures.below c.in-Eq.s c.in-Eq.t _ _ _ c.in-Eq.is (ap (map (λ b. b.now)) c.as_slice-in-Eq.ensures.value) c.in_ok-put_equation-in-Eq.ensures
 
 pub loop-part-preserved : goal.loop-part-preserved
 loop-part-preserved t c =

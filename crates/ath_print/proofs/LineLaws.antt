@@ -1,14 +1,14 @@
 -- Lines that begin without sort variables, and lines that are whole.
-use Rattle.std.proofs.Common.{◌≡◌, ℕ, ◌+◌, ◌-◌, ◌<◌, ◌≤◌, nat_lt, Bool, true, false, List, [], ◌∷◌, ◌++◌, length, codes, append_assoc, append-nil, length-append, refl, sym, ◌∙◌, ap, arith, if◌then◌else◌}
+use Rattle.std.proofs.Common.{◌≡◌, ℕ, ◌+◌, ◌-◌, ◌<◌, ◌≤◌, nat_lt, Bool, true, false, List, [], ◌∷◌, ◌++◌, length, append-nil, refl, sym, ◌∙◌, ap, arith, if◌then◌else◌}
 use Rattle.std.specs.Prelude.{min}
 use Rattle.std.proofs.Math.Nat.{min-eq_left, min-eq_right}
-use Rattle.std.proofs.lemmas.Bool.{lt-ltb, le-ltb, ltb-true, ltb-false}
+use Rattle.std.proofs.lemmas.Bool.{ltb-true, ltb-false}
 use Rattle.ath_sorts.specs.declared.sorts.SVar.{SVar}
 use Rattle.ath_print.specs.declared.draft.Draft.{Draft}
 use Rattle.ath_print.specs.declared.draft.Output.{Output}
 use Rattle.ath_print.specs.declared.draft.Output.TheVariants.{Kept, Room, Full}
 use Rattle.ath_print.specs.declared.limits.TheConstants.{MOST_LINE_BYTES}
-use Rattle.ath_print.specs.Printers.{Printed, Printer, word, in_turn, Line, built, counted, too_long, after, line_from, line_in, unseen, is_too_long}
+use Rattle.ath_print.specs.Printers.{Printed, Printer, word, in_turn, Line, built, counted, too_long, after, line_from, line_in, unseen}
 use Rattle.ath_print.proofs.PieceLaws.{after_words, after_two}
 
 -- ---- a line that has shown no sort variables

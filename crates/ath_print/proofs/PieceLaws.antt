@@ -3,7 +3,7 @@ use Rattle.std.proofs.Common.{◌≡◌, ℕ, ◌+◌, ◌-◌, ◌<◌, ◌≤�
 use Rattle.std.proofs.lemmas.Bool.{lt-ltb, le-ltb, ltb-true, ltb-false}
 use Rattle.std.proofs.lemmas.List.{drop_more, drop_all}
 use Rattle.ath_sorts.specs.declared.sorts.SVar.{SVar}
-use Rattle.ath_print.specs.Printers.{Printed, Printer, word, in_turn, spaced, item, Line, built, counted, too_long, after, is_too_long}
+use Rattle.ath_print.specs.Printers.{Printer, word, in_turn, spaced, item, Line, built, counted, too_long, after, is_too_long}
 
 -- a counted line goes on by some bytes
 abbrev counting : ℕ → ℕ → List SVar → Line

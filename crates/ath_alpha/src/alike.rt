@@ -10,6 +10,8 @@ ghost use Rattle.ath_trees.specs.Nameless.{placed, nameless_term, nameless_under
 use crate::binders::{Binders, Meeting, meeting_of};
 use ath_sorts::Sort;
 use ath_sorts::sorts::is_same;
+use ath_terms::equality::are_same_sorts;
+use ath_terms::variables::{is_namesake, is_same_var};
 use ath_terms::{SentNode, Store, TermNode};
 use ath_trees::{SentId, TermId, Var};
 
@@ -22,27 +24,21 @@ fn is_like_sort(told: bool, s: &Sort, t: &Sort) -> bool
 fn are_like_sorts(told: bool, some: &[Sort], others: &[Sort]) -> bool
     ensures { IsTrue result ↔ (sorts_seen told some.now ≡ sorts_seen told others.now) }
 {
-    if !told {
-        return true;
+    if told {
+        are_same_sorts(some, others)
+    } else {
+        true
     }
-    if some.len() != others.len() {
-        return false;
-    }
-    for i in 0..some.len() {
-        if !is_same(&some[i], &others[i]) {
-            return false;
-        }
-    }
-    true
 }
 
 fn is_like_free(told: bool, v: &Var, w: &Var) -> bool
     ensures { IsTrue result ↔ (var_seen told v.now ≡ var_seen told w.now) }
 {
-    if v.name.0 != w.name.0 || v.index != w.index {
-        return false;
+    if told {
+        is_same_var(v, w)
+    } else {
+        is_namesake(v, w)
     }
-    is_like_sort(told, &v.sort, &w.sort)
 }
 
 fn is_like_var<'a>(

@@ -37,7 +37,7 @@ use Rattle.ath_terms.specs.Limits.{MatchMeasured}
 use Rattle.ath_construction.proofs.Planned.{app_built, app_miscounted}
 use Rattle.ath_trees.proofs.ValidSorts.{both_true, valid-var, valid_under, valid_all_under, use_valid, at_sorts_under, all_at_sorts_under, symbol_good, IsGood}
 use Rattle.ath_trees.proofs.UnderLaws.{sort_in-is, have_sorts-under, listed-under, size-under, depth-under}
-use Rattle.ath_subst.proofs.WithinLaws.{all-map}
+use Rattle.std.proofs.lemmas.List.Folds.{list_all-map}
 use Rattle.ath_construction.proofs.UnifierValid.{AreValid, unifier_valid}
 use Rattle.ath_construction.proofs.ArgumentLaws.{made-length}
 use Rattle.ath_construction.proofs.ConstructionLaws.{measured-is, refused-solve, refused-measure, within-measure, has_sort-valid, zip-valid, terms_vars-valid, variable_pairs-valid, append-valid}
@@ -140,7 +140,7 @@ module _ (sig : Signature) (old : Trees) (d : Symbol) (first : ℕ) (ids : List 
   measure_is : (f : SVar → Sort) → app_measure sig f made result (arguments old ids) ≡ term_measure sig ((app_plan sig first d (terms_of old ids)).tree f)
   measure_is f =
       let r = sym (result_in f) in
-      let m = ap (list_all (λ s. is_small (apply_to f s))) made_are ∙ sym (all-map is_small (apply_to f) (made_sorts first d.params)) in
+      let m = ap (list_all (λ s. is_small (apply_to f s))) made_are ∙ sym (list_all-map is_small (apply_to f) (made_sorts first d.params)) in
       let p = sym (terms_size-under f (arguments old ids)) in
       let q = sym (terms_depth-under f (arguments old ids)) in
       λ i. record {

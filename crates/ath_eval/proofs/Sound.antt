@@ -167,7 +167,7 @@ module _ (c : Context) (asserted hyps : List Sent) (valid : IsValid c.theory.sig
     equates = λ v w s t x h k e f b. equation-sorted c.theory.signature valid there s t x (term-of v s h e) (term-of w t k f) b;
     connects = λ k vs xs x h e b. joined-sorted c.theory.signature valid there k xs x (all-of part_of Sorted HasOwnPart part-of 1 vs xs h e).0 b;
     quantifies = λ q vs w xs y x h p e f b. bound-sorted c.theory.signature valid there q xs y x (all-of variable_in Sorted (IsSortedVariable c.theory.signature) (variable-sorted c.theory.signature) 1 vs xs h e).0 (part-of w y p f) b;
-      renames = λ p q e d. alpha e d;
+    renames = λ p q e d. alpha e d;
     detaches = λ p q d e. if_elim d e;
   }
 

@@ -72,7 +72,8 @@ Fills c nodes ns s (Head u i levels k) r out =
     (p : Pos) × (f : Phrase) × (xs : Phrases) × (es : List Entry) × IsPhrase nodes i (used u p f xs) × IsScope s ns k.0 es
     × (out ≡ and_then r (λ v. each (evaluated c levels) (with_base es) [] xs (acts c levels u p v)))
 Fills c nodes ns s (Argument u i h done levels k) r out =
-    (p : Pos) × (f : Phrase) × (xs : Phrases) × (v : Value) × (vs : List Value) × (rest : Phrases) × (es : List Entry) × IsPhrase nodes i (used u p f xs) × IsValue s h v × AreValues s done vs × (length done < most) × ArePhrases nodes (drop (length done + 1) (arguments_at nodes i)) rest × IsScope s ns k.0 es
+    (p : Pos) × (f : Phrase) × (xs : Phrases) × (v : Value) × (vs : List Value) × (rest : Phrases) × (es : List Entry) × IsPhrase nodes i (used u p f xs) × IsValue s h v × AreValues s done vs
+    × (length done < most) × ArePhrases nodes (drop (length done + 1) (arguments_at nodes i)) rest × IsScope s ns k.0 es
     × (out ≡ then_in (with_base es) r (λ env w. each (evaluated c levels) env (vs ++ w ∷ []) rest (acts c levels u p v)))
 Fills c nodes ns s (Ascription i) r out =
     (p : Pos) × (x : Phrase) × (text : SortText) × IsPhrase nodes i (ascribe_at p x text) × (out ≡ and_then r (λ v. ascribed c text v p))
@@ -120,7 +121,8 @@ ActMeans c nodes s fuel fresh u i h args levels fs out =
 -- the head is known, and these arguments
 abbrev pub ArgumentsMean : Reading → Nodes → Trees → ℕ → Fresh → Use → PhraseId → value.Value → List value.Value → ℕ → List Frame → Outcome → Type 0
 ArgumentsMean c nodes s fuel fresh u i h done levels fs out =
-    (p : Pos) × (f : Phrase) × (xs : Phrases) × (v : Value) × (vs : List Value) × (rest : Phrases) × (es : List Entry) × IsPhrase nodes i (used u p f xs) × IsValue s h v × AreValues s done vs × (length done ≤ most) × ArePhrases nodes (drop (length done) (arguments_at nodes i)) rest × IsScope s c.base c.scope.0 es
+    (p : Pos) × (f : Phrase) × (xs : Phrases) × (v : Value) × (vs : List Value) × (rest : Phrases) × (es : List Entry) × IsPhrase nodes i (used u p f xs) × IsValue s h v × AreValues s done vs
+    × (length done ≤ most) × ArePhrases nodes (drop (length done) (arguments_at nodes i)) rest × IsScope s c.base c.scope.0 es
     × Resumes c.context nodes c.base s fs (each (evaluated c.context levels) (with_base es) vs rest (acts c.context levels u p v) (left_of fuel fresh)) out
 
 -- a frame has been taken off, and gets an outcome

@@ -10,3 +10,5 @@ pub mod WithinLaws
 pub mod KeptLaws
 pub mod KeepingLaws
 pub mod MeetingLaws
+pub mod SameLaws
+pub mod SameSents

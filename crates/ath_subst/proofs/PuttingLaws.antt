@@ -21,6 +21,9 @@ use Rattle.ath_terms.specs.Nodes.{term_tree, IsTermBelow}
 use Rattle.ath_terms.specs.SortsIn.{IsSortedIn}
 use Rattle.ath_terms.specs.Trees.{Trees, term_at, sort_at, Grows, IsTerm, IsTermOf}
 use Rattle.ath_terms.proofs.Measures.{total, most, listed-size, listed-depth}
+use Rattle.ath_terms.proofs.Grow.{term_node-kept}
+use Rattle.ath_terms.proofs.Parts.{listed-same}
+use Rattle.ath_subst.proofs.SameLaws.{Stay, AreSame, same-next, same-end, maps-stay}
 use Rattle.ath_subst.proofs.StepLaws.{terms-kept, terms-push, terms-are, map-take-next}
 
 -- the images of the terms of some ids
@@ -125,6 +128,27 @@ module _ (old : Trees) (x : Variable) (by t : ℕ) (n m : TermNode) (e : m ≡ n
 
   pub put-tree : (s : Trees) (parts : List TermId) (i : ℕ) → length xs ≤ i → AreTerms s parts (map pic (take i xs)) → term_tree s.terms (App f sorts parts) ≡ subst_term x (term_at old.terms by) (term_at old.terms t)
   put-tree s parts i l a = ap (λ (ts : List Term). app f sorts (listed ts)) (terms-are s parts (map pic (take i xs)) a ∙ ap (map pic) (take_all i xs l)) ∙ sym whole
+
+  -- where the term comes out as it was
+  put-stay : subst_term x (term_at old.terms by) (term_at old.terms t) ≡ term_at old.terms t → (d : TermId) (i : ℕ) → Stay pic (λ j. term_at old.terms j.0) xs d i
+  put-stay left d i =
+      let q : app f sorts (listed (map (λ j. term_at old.terms j.0) xs)) ≡ term_at old.terms t = rw node_is at tree in
+      let p : app f sorts (listed (map pic xs)) ≡ app f sorts (listed (map (λ j. term_at old.terms j.0) xs)) = sym whole ∙ left ∙ sym q in
+      let r : listed (map pic xs) ≡ listed (map (λ j. term_at old.terms j.0) xs) = cc in
+      maps-stay pic (λ j. term_at old.terms j.0) xs d i (listed-same (map pic xs) (map (λ j. term_at old.terms j.0) xs) r)
+
+  pub put-same-next : (s u : Trees) (parts : List TermId) (i : ℕ) (d part : TermId) → i < length xs → (Stay pic (λ j. term_at old.terms j.0) xs d i → AreSame old s parts (take i xs)) → (subst_term x (term_at s.terms by) (term_at s.terms (get_or xs i d).0) ≡ term_at s.terms (get_or xs i d).0 → (part ≡ get_or xs i d) × (u ≡ s))
+      → Stay pic (λ j. term_at old.terms j.0) xs d (i + 1) → AreSame old u (parts ++ part ∷ []) (take (i + 1) xs)
+  put-same-next s u parts i d part l before here = same-next pic (λ j. term_at old.terms j.0) old s u xs parts i d part l before
+      (λ e h. here (subst (λ (z : Trees). subst_term x (term_at z.terms by) (term_at z.terms (get_or xs i d).0) ≡ term_at z.terms (get_or xs i d).0) (sym e) h))
+
+  pub put-same : (s : Trees) (parts : List TermId) (i : ℕ) (d : TermId) → length xs ≤ i → (Stay pic (λ j. term_at old.terms j.0) xs d i → AreSame old s parts (take i xs)) → subst_term x (term_at old.terms by) (term_at old.terms t) ≡ term_at old.terms t → AreSame old s parts xs
+  put-same s parts i d l before left = same-end pic (λ j. term_at old.terms j.0) old s xs parts i d l before (put-stay left d (length xs))
+
+  pub put-left : (s : Trees) (parts : List TermId) (r : Sort) → Grows old s → r ≡ sort_at s.sorts t → xs ≡ parts → IsTermOf s t (term_tree s.terms (App f sorts parts)) r
+  put-left s parts r g e same' =
+      let q : n ≡ App f sorts parts = node_is ∙ ap (App f sorts) same' in
+      (rw q at (term_node-kept old s t n g inside below tree), sym e)
 
 -- the new term has the sort of the old one
 pub put-has : (sig : Signature) (s : Trees) (x : Variable) (by t : ℕ) (y : Term) (r : Sort) → IsSortedIn sig s → by < length s.terms → t < length s.terms → sort_at s.sorts by ≡ x.sort → y ≡ subst_term x (term_at s.terms by) (term_at s.terms t) → r ≡ sort_at s.sorts t → HasSort sig y r

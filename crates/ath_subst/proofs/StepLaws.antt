@@ -12,14 +12,15 @@ use Rattle.ath_trees.specs.declared.node.TermId.{TermId}
 use Rattle.ath_terms.specs.declared.node.TermNode.{TermNode}
 use Rattle.ath_terms.specs.declared.node.TermNode.TheVariants.{Var, App}
 use Rattle.ath_trees.specs.Tree.{Term, app, listed}
-use Rattle.ath_terms.specs.Trees.{Trees, term_at, sort_at, Grows, IsTerm}
+use Rattle.ath_terms.specs.Trees.{Trees, term_at, sort_at, Grows, IsTerm, IsTermOf}
 use Rattle.ath_terms.specs.Lists.{AreTerms}
 use Rattle.ath_terms.specs.Nodes.{term_tree, IsTermBelow}
 use Rattle.ath_terms.specs.SortsIn.{IsSortedIn}
 use Rattle.ath_trees.specs.Under.{term_under}
 use Rattle.ath_subst.specs.Under.{node_under}
 use Rattle.ath_trees.specs.WellSorted.{is_valid_sort, HasSort}
-use Rattle.ath_terms.proofs.Grow.{term-kept}
+use Rattle.ath_terms.proofs.Grow.{term-kept, term_node-kept}
+use Rattle.ath_subst.proofs.SameLaws.{Stay, AreSame, same-next, same-end, args-stay}
 use Rattle.ath_trees.proofs.UnderLaws.{listed-under, has_sort-under}
 
 -- the trees of some terms under a substitution
@@ -107,6 +108,20 @@ module _ (old : Trees) (f : SVar → Sort) (n m : TermNode) (g : Sym) (sorts : L
   app-tree s parts i tree l a =
       ap (λ (ts : List Term). app g sorts (listed ts)) (terms-are s parts (images_of old f (take i xs)) a ∙ ap (images_of old f) (take_all i xs l ∙ same))
       ∙ sym the_app.tree ∙ ap (term_under f) tree
+
+  -- where the term comes out as it was
+  pub images-same-next : (s u : Trees) (parts : List TermId) (i : ℕ) (d part : TermId) → i < length xs → (Stay (λ j. term_under f (term_at old.terms j.0)) (λ j. term_at old.terms j.0) xs d i → AreSame old s parts (take i xs))
+      → (s ≡ old → term_under f (term_at s.terms (get_or xs i d).0) ≡ term_at s.terms (get_or xs i d).0 → (part ≡ get_or xs i d) × (u ≡ s)) → Stay (λ j. term_under f (term_at old.terms j.0)) (λ j. term_at old.terms j.0) xs d (i + 1) → AreSame old u (parts ++ part ∷ []) (take (i + 1) xs)
+  images-same-next s u parts i d part l before here = same-next (λ j. term_under f (term_at old.terms j.0)) (λ j. term_at old.terms j.0) old s u xs parts i d part l before
+      (λ q h. here q (subst (λ (z : Trees). term_under f (term_at z.terms (get_or xs i d).0) ≡ term_at z.terms (get_or xs i d).0) (sym q) h))
+
+  pub images-same : (s : Trees) (parts : List TermId) (i : ℕ) (d : TermId) → length xs ≤ i → (Stay (λ j. term_under f (term_at old.terms j.0)) (λ j. term_at old.terms j.0) xs d i → AreSame old s parts (take i xs)) → term_tree old.terms n ≡ term_at old.terms t → term_under f (term_at old.terms t) ≡ term_at old.terms t → AreSame old s parts xs
+  images-same s parts i d l before tree left = same-end (λ j. term_under f (term_at old.terms j.0)) (λ j. term_at old.terms j.0) old s xs parts i d l before (args-stay old f n m t e tree left g sorts ids xs d (length xs) is same the_app.tree)
+
+  pub app-left : (s : Trees) (parts : List TermId) (r : Sort) → Grows old s → t < length old.terms → IsTermBelow t n → term_tree old.terms n ≡ term_at old.terms t → r ≡ sort_at old.sorts t → n ≡ m → xs ≡ parts → IsTermOf s t (term_tree s.terms (App g sorts parts)) r
+  app-left s parts r k inside below tree q one same' =
+      let a : n ≡ App g sorts parts = one ∙ is ∙ ap (App g sorts) (sym same ∙ same') in
+      (rw a at (term_node-kept old s t n k inside below tree), k.same_sorts t inside ∙ sym q)
 
 has_same : (sig : Signature) (x y : Term) (r q : Sort) → x ≡ y → r ≡ q → HasSort sig y q → HasSort sig x r
 has_same sig x y r q p e h = rw (p, e) h

@@ -4,3 +4,4 @@ pub mod Captures
 pub mod Limited
 pub mod Given
 pub mod Meeting
+pub mod Same

@@ -1,6 +1,6 @@
 // Binders under a sort substitution: one that another free variable of its body comes to is renamed.
 
-ghost use Rattle.std.specs.Prelude.{◌≡◌, ◌<◌, ◌++◌, ◌&&◌, true, not, length, IfOk, OnErr};
+ghost use Rattle.std.specs.Prelude.{◌≡◌, ◌<◌, ◌++◌, ◌&&◌, true, false, not, length, IfOk, OnErr};
 ghost use Rattle.ath_sorts.specs.Signature.{Signature};
 ghost use Rattle.ath_sorts.specs.Sorts.{image};
 ghost use Rattle.ath_subst.specs.Binders.{binder_at, body_at};
@@ -11,7 +11,7 @@ ghost use Rattle.ath_trees.specs.Renamed.{renamed};
 ghost use Rattle.ath_trees.specs.SortUnder.{is_met};
 ghost use Rattle.ath_trees.specs.Tree.{var};
 ghost use Rattle.ath_trees.specs.Under.{var_under};
-ghost use Rattle.ath_trees.specs.Variables.{same_var};
+ghost use Rattle.ath_trees.specs.Variables.{same_var, free_vars};
 ghost use Rattle.ath_trees.specs.WellSorted.{is_valid_sort};
 
 use crate::meeting::is_met_past;
@@ -81,6 +81,7 @@ pub fn free_binder(
     ensures grows { Grows store.old store.new }
     ensures variable { IfOk result (λ b. b.variable ≡ binder_at (image subst.now) v (sent_at store.old.sents body.0)) }
     ensures body { IfOk result (λ b. IsSent store.new b.body.0 (body_at (image subst.now) v (sent_at store.old.sents body.0))) }
+    ensures same { is_met (image subst.now) v (free_vars (sent_at store.old.sents body.0)) ≡ false → IfOk result (λ b. (b.body ≡ body) × (store.new ≡ store.old)) }
     ensures sorted { (sig : Signature) → IsSortedIn sig store.old → is_valid_sort sig v.sort ≡ true → IsSortedIn sig store.new }
 {
     let none = Vec::new(alloc);

@@ -116,6 +116,7 @@ pub fn open_binder(
     ensures grows { Grows store.old store.new }
     ensures variable { IfOk result (λ b. b.variable ≡ binder_for (term_at store.old.terms by.0) v (sent_at store.old.sents body.0)) }
     ensures body { IfOk result (λ b. IsSent store.new b.body.0 (body_for (term_at store.old.terms by.0) v (sent_at store.old.sents body.0))) }
+    ensures same { is_named v (term_vars (term_at store.old.terms by.0)) ≡ false → IfOk result (λ b. (b.body ≡ body) × (store.new ≡ store.old)) }
     ensures sorted { (sig : Signature) → IsSortedIn sig store.old → is_valid_sort sig v.sort ≡ true → IsSortedIn sig store.new }
 {
     if !is_index_used(&v, v.index, used) {

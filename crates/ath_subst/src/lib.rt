@@ -8,6 +8,7 @@ pub mod error;
 pub mod keeping;
 pub mod kept;
 pub mod meeting;
+pub mod nodes;
 pub mod occurrences;
 pub mod putting;
 pub mod renaming;

@@ -2,6 +2,7 @@
 
 ghost use Rattle.std.specs.Prelude.{◌≡◌, ◌<◌, length, IfOk};
 ghost use Rattle.ath_sorts.specs.Signature.{Signature};
+ghost use Rattle.ath_subst.specs.Same.{IsSame};
 ghost use Rattle.ath_terms.specs.SortsIn.{IsSortedIn};
 ghost use Rattle.ath_terms.specs.Trees.{term_at, sort_at, Grows, IsTerm};
 ghost use Rattle.ath_trees.specs.Measure.{IsSmall};
@@ -10,7 +11,9 @@ ghost use Rattle.ath_trees.specs.Tree.{atom};
 
 use crate::captures::lacks;
 use crate::kept::keep_term;
+use crate::nodes::are_same_terms;
 use ath_sorts::sorts::copied;
+use ath_terms::equality::is_same_term;
 use ath_terms::plain::{copied_sorts, list_depth, list_size};
 use ath_terms::variables::{copied_var, is_same_var};
 use ath_terms::{Store, TermNode};
@@ -48,6 +51,7 @@ pub fn put_term(
     requires small { IsSmall (atom (subst_term x.now (term_at store.old.terms by.0) (term_at store.old.terms t.0))) }
     ensures grows { Grows store.old store.new }
     ensures tree { IfOk result (λ r. IsTerm store.new r.0 (subst_term x.now (term_at store.old.terms by.0) (term_at store.old.terms t.0))) }
+    ensures same { subst_term x.now (term_at store.old.terms by.0) (term_at store.old.terms t.0) ≡ term_at store.old.terms t.0 → IsSame store.old store.new t result }
     ensures sorted { (sig : Signature) → IsSortedIn sig store.old → sort_at store.old.sorts by.0 ≡ x.now.sort → IsSortedIn sig store.new }
 {
     if lacks(store, t, x) {
@@ -56,10 +60,13 @@ pub fn put_term(
     let node = copied_term(alloc, store.term(t))?;
     match node {
         TermNode::Var(v) => {
-            if is_same_var(x, &v) {
-                return Ok(by);
+            if !is_same_var(x, &v) {
+                return Ok(t);
             }
-            Ok(t)
+            if is_same_term(store, t, by) {
+                return Ok(t);
+            }
+            Ok(by)
         }
         TermNode::App(f, sorts, args) => {
             let ids = args.as_slice();
@@ -71,8 +78,9 @@ pub fn put_term(
             let nodes = 1 + list_size(store, parts.as_slice());
             let levels = 1 + list_depth(store, parts.as_slice());
             let sort = copied(store.sort_of(t))?;
+            let is_left = are_same_terms(ids, parts.as_slice());
             let whole = TermNode::App(f, sorts, parts);
-            let term = keep_term(store, t, whole, sort, nodes, levels)?;
+            let term = keep_term(store, t, is_left, whole, sort, nodes, levels)?;
             Ok(term)
         }
     }

@@ -4,6 +4,7 @@ ghost use Rattle.std.specs.Prelude.{◌≡◌, ◌<◌, true, length, IfOk};
 ghost use Rattle.ath_sorts.specs.Signature.{Signature};
 ghost use Rattle.ath_sorts.specs.Sorts.{image};
 ghost use Rattle.ath_sorts.specs.declared.sorts.SVar.{SVar};
+ghost use Rattle.ath_subst.specs.Same.{IsSame};
 ghost use Rattle.ath_terms.specs.Trees.{sent_at, Grows, IsSent};
 ghost use Rattle.ath_trees.specs.SortsIn.{sent_has_small_sorts};
 ghost use Rattle.ath_terms.specs.SortsIn.{IsSortedIn};
@@ -18,6 +19,7 @@ use crate::meeting::var_under;
 use crate::terms::{are_both_within, is_term_within, term_under};
 use ath_sorts::SortSubst;
 use ath_terms::plain::copied_node;
+use ath_terms::variables::copied_var;
 use ath_terms::{SentNode, Store};
 use ath_trees::SentId;
 use sqlite_items::Items;
@@ -70,6 +72,7 @@ fn renewed_sent(
     requires { p.0 < length store.old.sents }
     ensures grows { Grows store.old store.new }
     ensures tree { IfOk result (λ r. IsSent store.new r.0 (sent_at_sorts (image subst.now) (sent_at store.old.sents p.0))) }
+    ensures same { (sig : Signature) → IsSortedIn sig store.old → sent_at_sorts (image subst.now) (sent_at store.old.sents p.0) ≡ sent_at store.old.sents p.0 → IsSame store.old store.new p result }
     ensures sorted { (sig : Signature) → IsSortedIn sig store.old → ((v : SVar) → is_valid_sort sig (image subst.now v) ≡ true) → IsSortedIn sig store.new }
 {
     if keeps_sent(store, subst, p) {
@@ -78,16 +81,16 @@ fn renewed_sent(
     let nodes = store.sent_size(p);
     let levels = store.sent_depth(p);
     let node = copied_node(alloc, store.sent(p))?;
-    match node {
+    match &node {
         SentNode::Atom(t) => {
-            let term = term_under(alloc, store, subst, t)?;
-            let sent = keep_sent(store, p, SentNode::Atom(term), nodes, levels)?;
+            let term = term_under(alloc, store, subst, *t)?;
+            let sent = keep_sent(store, p, &node, SentNode::Atom(term), nodes, levels)?;
             Ok(sent)
         }
         SentNode::Eq(s, t) => {
-            let left = term_under(alloc, store, subst, s)?;
-            let right = term_under(alloc, store, subst, t)?;
-            let sent = keep_sent(store, p, SentNode::Eq(left, right), nodes, levels)?;
+            let left = term_under(alloc, store, subst, *s)?;
+            let right = term_under(alloc, store, subst, *t)?;
+            let sent = keep_sent(store, p, &node, SentNode::Eq(left, right), nodes, levels)?;
             Ok(sent)
         }
         SentNode::Conn(c, ids) => {
@@ -97,14 +100,16 @@ fn renewed_sent(
                 let part = renewed_sent(alloc, store, subst, from[i])?;
                 parts.push(part)?;
             }
-            let sent = keep_sent(store, p, SentNode::Conn(c, parts), nodes, levels)?;
+            let sent = keep_sent(store, p, &node, SentNode::Conn(*c, parts), nodes, levels)?;
             Ok(sent)
         }
         SentNode::Quant(k, v, body) => {
-            let binder = free_binder(alloc, store, subst, v, body)?;
+            let own = copied_var(v)?;
+            let binder = free_binder(alloc, store, subst, own, *body)?;
             let inner = renewed_sent(alloc, store, subst, binder.body)?;
             let variable = var_under(alloc, subst, &binder.variable)?;
-            let sent = keep_sent(store, p, SentNode::Quant(k, variable, inner), nodes, levels)?;
+            let whole = SentNode::Quant(*k, variable, inner);
+            let sent = keep_sent(store, p, &node, whole, nodes, levels)?;
             Ok(sent)
         }
     }
@@ -120,6 +125,7 @@ pub fn sent_at_sorts(
     requires { p.0 < length store.old.sents }
     ensures grows { Grows store.old store.new }
     ensures tree { IfOk result (λ r. IsSent store.new r.0 (sent_at_sorts (image subst.now) (sent_at store.old.sents p.0))) }
+    ensures same { (sig : Signature) → IsSortedIn sig store.old → sent_at_sorts (image subst.now) (sent_at store.old.sents p.0) ≡ sent_at store.old.sents p.0 → IsSame store.old store.new p result }
     ensures sorted { (sig : Signature) → IsSortedIn sig store.old → ((v : SVar) → is_valid_sort sig (image subst.now v) ≡ true) → IsSortedIn sig store.new }
 {
     if leaves_sent(store, subst, p) {

@@ -5,11 +5,13 @@ ghost use Rattle.ath_sorts.specs.Signature.{Signature};
 ghost use Rattle.ath_sorts.specs.Sorts.{image, apply_to};
 ghost use Rattle.ath_sorts.specs.declared.sorts.SVar.{SVar};
 ghost use Rattle.ath_subst.specs.Given.{term_substituted, sent_substituted, closing_given, term_moved, sent_moved, IsTermGiven, IsSentGiven};
+ghost use Rattle.ath_subst.specs.Same.{IsSame};
 ghost use Rattle.ath_terms.specs.SortsIn.{IsSortedIn};
 ghost use Rattle.ath_terms.specs.Trees.{term_at, sort_at, sent_at, Grows, IsTermOf, IsSent};
 ghost use Rattle.ath_trees.specs.Closing.{closing};
 ghost use Rattle.ath_trees.specs.Occurrences.{is_among};
 ghost use Rattle.ath_trees.specs.SortUnder.{sent_at_sorts};
+ghost use Rattle.ath_trees.specs.Substitution.{subst_term, subst_sent};
 ghost use Rattle.ath_trees.specs.Under.{term_under};
 ghost use Rattle.ath_trees.specs.Variables.{same_var, term_vars, free_vars};
 ghost use Rattle.ath_trees.specs.WellSorted.{is_valid_sort};
@@ -42,7 +44,7 @@ pub fn subst_term(
     requires fits { sort_at store.old.sorts by.0 ≡ x.now.sort }
     ensures grows { Grows store.old store.new }
     ensures built { IsTermGiven store.new (term_substituted x.now (term_at store.old.terms by.0) (term_at store.old.terms t.0)) result }
-    ensures same { is_among x.now (term_vars (term_at store.old.terms t.0)) ≡ false → IfOk result (λ r. r ≡ t) }
+    ensures same { subst_term x.now (term_at store.old.terms by.0) (term_at store.old.terms t.0) ≡ term_at store.old.terms t.0 → IsSame store.old store.new t result }
     ensures sorted { (sig : Signature) → IsSortedIn sig store.old → IsSortedIn sig store.new }
     ensures sort { (sig : Signature) → IsSortedIn sig store.old → IfOk result (λ r. sort_at store.new.sorts r.0 ≡ sort_at store.old.sorts t.0) }
 {
@@ -70,7 +72,7 @@ pub fn subst_sent(
     requires fits { sort_at store.old.sorts by.0 ≡ x.now.sort }
     ensures grows { Grows store.old store.new }
     ensures built { IsSentGiven store.new (sent_substituted x.now (term_at store.old.terms by.0) (sent_at store.old.sents p.0)) result }
-    ensures same { is_among x.now (free_vars (sent_at store.old.sents p.0)) ≡ false → IfOk result (λ r. r ≡ p) }
+    ensures same { subst_sent x.now (term_at store.old.terms by.0) (sent_at store.old.sents p.0) ≡ sent_at store.old.sents p.0 → IsSame store.old store.new p result }
     ensures sorted { (sig : Signature) → IsSortedIn sig store.old → IsSortedIn sig store.new }
 {
     let counts = sent_counts(store, p, x, by);
@@ -95,6 +97,7 @@ pub fn apply_sorts_term(
     ensures grows { Grows store.old store.new }
     ensures built { (sig : Signature) → IsSortedIn sig store.old → IsTermGiven store.new (term_moved sig (image s.now) (term_at store.old.terms t.0)) result }
     ensures tree { IfOk result (λ r. IsTermOf store.new r.0 (term_under (image s.now) (term_at store.old.terms t.0)) (apply_to (image s.now) (sort_at store.old.sorts t.0))) }
+    ensures same { (sig : Signature) → IsSortedIn sig store.old → term_under (image s.now) (term_at store.old.terms t.0) ≡ term_at store.old.terms t.0 → IsSame store.old store.new t result }
     ensures sorted { (sig : Signature) → IsSortedIn sig store.old → ((v : SVar) → is_valid_sort sig (image s.now v) ≡ true) → IsSortedIn sig store.new }
 {
     if !is_term_within(store, s, t) {
@@ -115,6 +118,7 @@ pub fn apply_sorts(
     ensures grows { Grows store.old store.new }
     ensures built { (sig : Signature) → IsSortedIn sig store.old → IsSentGiven store.new (sent_moved sig (image s.now) (sent_at store.old.sents p.0)) result }
     ensures tree { IfOk result (λ r. IsSent store.new r.0 (sent_at_sorts (image s.now) (sent_at store.old.sents p.0))) }
+    ensures same { (sig : Signature) → IsSortedIn sig store.old → sent_at_sorts (image s.now) (sent_at store.old.sents p.0) ≡ sent_at store.old.sents p.0 → IsSame store.old store.new p result }
     ensures sorted { (sig : Signature) → IsSortedIn sig store.old → ((v : SVar) → is_valid_sort sig (image s.now v) ≡ true) → IsSortedIn sig store.new }
 {
     if !is_sent_within(store, s, p) {

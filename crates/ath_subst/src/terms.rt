@@ -1,6 +1,6 @@
 // Terms of a store under a sort substitution. Only what it changes has new nodes.
 
-ghost use Rattle.std.specs.Prelude.{◌≡◌, ◌<◌, ◌&&◌, true, length, map, IfOk};
+ghost use Rattle.std.specs.Prelude.{◌≡◌, ◌<◌, ◌&&◌, ◌↔◌, IsTrue, true, length, map, IfOk};
 ghost use Rattle.std.specs.List.{list_all};
 ghost use Rattle.ath_sorts.specs.Sorts.{is_small, image, apply_to};
 ghost use Rattle.ath_sorts.specs.Signature.{Signature};
@@ -9,11 +9,14 @@ ghost use Rattle.ath_terms.specs.Trees.{term_at, sort_at, Grows, IsTermOf};
 ghost use Rattle.ath_trees.specs.SortsIn.{has_small_sorts};
 ghost use Rattle.ath_terms.specs.SortsIn.{IsSortedIn};
 ghost use Rattle.ath_trees.specs.Under.{term_under};
+ghost use Rattle.ath_subst.specs.Same.{IsSame};
 ghost use Rattle.ath_subst.specs.Under.{node_under};
 ghost use Rattle.ath_trees.specs.WellSorted.{is_valid_sort};
 
 use crate::keeping::{keeps_small_term, keeps_term, leaves_term};
 use crate::kept::keep_term;
+use crate::nodes::{are_same_terms, is_same_term_node};
+use ath_sorts::sorts::is_same;
 use ath_sorts::{Sort, SortSubst};
 use ath_terms::{Store, TermNode};
 use ath_trees::{TermId, Var};
@@ -105,6 +108,20 @@ fn node_under(alloc: Global, subst: &SortSubst, node: &TermNode) -> Result<TermN
     }
 }
 
+/// Whether two nodes are one, with the sorts that are kept with them.
+fn are_one(some: &TermNode, sort: &Sort, other: &TermNode, whole: &Sort) -> bool
+    ensures { IsTrue result ↔ ((some.now ≡ other.now) × (sort.now ≡ whole.now)) }
+{
+    is_same_term_node(some, other) && is_same(sort, whole)
+}
+
+/// Whether a node stays with all its parts.
+fn all_stay(stays: bool, old: &[TermId], new: &[TermId]) -> bool
+    ensures { IsTrue result ↔ (IsTrue stays × (old.now ≡ new.now)) }
+{
+    stays && are_same_terms(old, new)
+}
+
 /// The term under the substitution, part by part. A part that comes out as it was keeps its number.
 fn renewed_term(
     alloc: Global,
@@ -115,6 +132,7 @@ fn renewed_term(
     requires { t.0 < length store.old.terms }
     ensures grows { Grows store.old store.new }
     ensures tree { IfOk result (λ r. IsTermOf store.new r.0 (term_under (image subst.now) (term_at store.old.terms t.0)) (apply_to (image subst.now) (sort_at store.old.sorts t.0))) }
+    ensures same { (sig : Signature) → IsSortedIn sig store.old → term_under (image subst.now) (term_at store.old.terms t.0) ≡ term_at store.old.terms t.0 → IsSame store.old store.new t result }
     ensures sorted { (sig : Signature) → IsSortedIn sig store.old → ((v : SVar) → is_valid_sort sig (image subst.now v) ≡ true) → IsSortedIn sig store.new }
 {
     if keeps_term(store, subst, t) {
@@ -122,11 +140,13 @@ fn renewed_term(
     }
     let nodes = store.size(t);
     let levels = store.depth(t);
-    let node = node_under(alloc, subst, store.term(t))?;
+    let from = store.term(t);
+    let node = node_under(alloc, subst, from)?;
     let sort = subst.applied(alloc, store.sort_of(t))?;
+    let stays = are_one(from, store.sort_of(t), &node, &sort);
     match node {
         TermNode::Var(v) => {
-            let term = keep_term(store, t, TermNode::Var(v), sort, nodes, levels)?;
+            let term = keep_term(store, t, stays, TermNode::Var(v), sort, nodes, levels)?;
             Ok(term)
         }
         TermNode::App(symbol, sorts, args) => {
@@ -136,8 +156,9 @@ fn renewed_term(
                 let part = renewed_term(alloc, store, subst, ids[i])?;
                 parts.push(part)?;
             }
+            let is_left = all_stay(stays, ids, parts.as_slice());
             let whole = TermNode::App(symbol, sorts, parts);
-            let term = keep_term(store, t, whole, sort, nodes, levels)?;
+            let term = keep_term(store, t, is_left, whole, sort, nodes, levels)?;
             Ok(term)
         }
     }
@@ -153,6 +174,7 @@ pub fn term_under(
     requires { t.0 < length store.old.terms }
     ensures grows { Grows store.old store.new }
     ensures tree { IfOk result (λ r. IsTermOf store.new r.0 (term_under (image subst.now) (term_at store.old.terms t.0)) (apply_to (image subst.now) (sort_at store.old.sorts t.0))) }
+    ensures same { (sig : Signature) → IsSortedIn sig store.old → term_under (image subst.now) (term_at store.old.terms t.0) ≡ term_at store.old.terms t.0 → IsSame store.old store.new t result }
     ensures sorted { (sig : Signature) → IsSortedIn sig store.old → ((v : SVar) → is_valid_sort sig (image subst.now v) ≡ true) → IsSortedIn sig store.new }
 {
     if leaves_term(store, subst, t) {

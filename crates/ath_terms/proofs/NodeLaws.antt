@@ -5,7 +5,7 @@ use Rattle.ath_terms.specs.declared.node.TermNode.{TermNode}
 use Rattle.ath_terms.specs.declared.node.TermNode.TheVariants.{Var, App}
 use Rattle.ath_terms.specs.declared.node.SentNode.{SentNode}
 use Rattle.ath_terms.specs.declared.node.SentNode.TheVariants as node
-use Rattle.ath_trees.specs.Tree.{Term, app, listed, Sent, atom, bound}
+use Rattle.ath_trees.specs.Tree.{Term, app, listed, Sent, atom, equal, bound}
 use Rattle.ath_terms.specs.Blank.{blank}
 use Rattle.ath_terms.specs.Trees.{term_at, sent_at}
 use Rattle.ath_terms.specs.Nodes.{term_tree, conn_tree, sent_tree, IsTermBelow, IsSentBelow}
@@ -33,3 +33,10 @@ sents-respect ts m = record { agrees = go }
     go k (node.Eq s t) us vs b h = refl
     go k (node.Conn c ids) us vs b h = ap (conn_tree c) (map-agrees (λ i. sent_at us i.0) (λ i. sent_at vs i.0) (λ i. i.0 < k) (λ a l. h a.0 l) ids b.1)
     go k (node.Quant q v p) us vs b h = ap (bound q v) (h p.0 b)
+
+-- with the same terms
+pub sent_tree-keeps : (ts us : List Term) (ss : List Sent) (m k : ℕ) (s : SentNode) → ((j : ℕ) → j < m → term_at us j ≡ term_at ts j) → IsSentBelow m k s → sent_tree us ss s ≡ sent_tree ts ss s
+sent_tree-keeps ts us ss m k (node.Atom t) h b = ap atom (h t.0 b)
+sent_tree-keeps ts us ss m k (node.Eq s t) h b = let p = h s.0 b.0 in let q = h t.0 b.1 in λ i. equal (p i) (q i)
+sent_tree-keeps ts us ss m k (node.Conn c ids) h b = refl
+sent_tree-keeps ts us ss m k (node.Quant q v p) h b = refl

@@ -11,13 +11,13 @@ use Rattle.ath_terms.specs.Kept.{Extent, IsTermKept, IsSentKept, AreEach}
 use Rattle.ath_terms.specs.declared.node.TermNode.{TermNode}
 use Rattle.ath_terms.specs.declared.node.SentNode.{SentNode}
 use Rattle.ath_terms.specs.declared.node.SentNode.TheVariants as node
-use Rattle.ath_trees.specs.Tree.{Term, Sent, atom, equal}
+use Rattle.ath_trees.specs.Tree.{Term, Sent, atom}
 use Rattle.ath_terms.specs.Blank.{blank}
 use Rattle.ath_terms.specs.Trees.{Trees, term_at, sort_at, sent_at}
 use Rattle.ath_terms.specs.Built.{built, IsOrdered}
 use Rattle.ath_terms.specs.Nodes.{term_tree, sent_tree, term_trees, sent_trees, IsTermBelow, IsSentBelow}
 use Rattle.ath_terms.proofs.BuiltLaws.{get_or-append-left, built-push, built-length, built-at, ordered-push, ordered-at}
-use Rattle.ath_terms.proofs.NodeLaws.{terms-respect, sents-respect}
+use Rattle.ath_terms.proofs.NodeLaws.{terms-respect, sents-respect, sent_tree-keeps}
 
 record Pair : Type 0 where
   pub terms : List Term
@@ -36,12 +36,6 @@ below-more m n k (node.Quant q v p) h b = b
 ordered-more : (m n k : ℕ) (ms : List SentNode) → m ≤ n → IsOrdered (IsSentBelow m) k ms → IsOrdered (IsSentBelow n) k ms
 ordered-more m n k [] h o = tt
 ordered-more m n k (s ∷ ms) h o = (below-more m n k s h o.0, ordered-more m n (k + 1) ms h o.1)
-
-sent_tree-keeps : (ts us : List Term) (ss : List Sent) (m k : ℕ) (s : SentNode) → ((j : ℕ) → j < m → term_at us j ≡ term_at ts j) → IsSentBelow m k s → sent_tree us ss s ≡ sent_tree ts ss s
-sent_tree-keeps ts us ss m k (node.Atom t) h b = ap atom (h t.0 b)
-sent_tree-keeps ts us ss m k (node.Eq s t) h b = let p = h s.0 b.0 in let q = h t.0 b.1 in λ i. equal (p i) (q i)
-sent_tree-keeps ts us ss m k (node.Conn c ids) h b = refl
-sent_tree-keeps ts us ss m k (node.Quant q v p) h b = refl
 
 sents-keep : (ts us : List Term) (m k : ℕ) (ss : List Sent) (ms : List SentNode) → ((j : ℕ) → j < m → term_at us j ≡ term_at ts j) → IsOrdered (IsSentBelow m) k ms → built (sent_tree us) ss ms ≡ built (sent_tree ts) ss ms
 sents-keep ts us m k ss [] h o = refl

@@ -18,6 +18,7 @@ use Rattle.ath_trees.specs.Tree.{Term, listed, Sent}
 use Rattle.ath_terms.specs.Trees.{term_at, sent_at}
 use Rattle.ath_terms.specs.Nodes.{term_tree, sent_tree, IsSentBelow}
 use Rattle.ath_trees.specs.Variables.{same_var, with_var, with_vars, with_term, with_terms, with_sent, with_sents}
+use Rattle.ath_trees.proofs.Occurring.{same_var-refl, same_var-true}
 use Rattle.ath_terms.proofs.ConnParts.{vars_of_conn}
 
 pub tells_same : (b : Bool) (s t : Sort) → (b ≡ true) ↔ (s ≡ t) → b ≡ same_sort s t
@@ -27,6 +28,9 @@ tells_same false s t h = go (same_sort s t) refl
     go : (x : Bool) → same_sort s t ≡ x → false ≡ same_sort s t
     go true e = absurd (let r = h.1 (same_sort-true s t e) in cc)
     go false e = sym e
+
+pub var_told : (b : Bool) (v w : Var) → b ≡ same_var v w → (b ≡ true) ↔ (v ≡ w)
+var_told b v w e = (λ t. same_var-true v w (sym e ∙ t), λ p. e ∙ rw p (same_var-refl w))
 
 -- one more at the end
 terms-push : (found : List Var) (xs : List Term) (x : Term) → with_terms found (listed (xs ++ x ∷ [])) ≡ with_term (with_terms found (listed xs)) x

@@ -3,7 +3,6 @@
 ghost use Rattle.std.specs.Prelude.{◌≡◌, ◌++◌, ◌∷◌, [], find, IfOk, OnOk};
 ghost use Rattle.std.specs.List.{list_any};
 ghost use Rattle.std.specs.Option.{option_copied};
-ghost use Rattle.ath_sorts.specs.Equality.{same_sort};
 ghost use Rattle.ath_trees.specs.Variables.{is_namesake, same_var, with_var};
 ghost use Rattle.ath_terms.specs.Found.{var_key, same_var_key};
 
@@ -21,17 +20,11 @@ pub fn is_namesake(v: &Var, w: &Var) -> bool
     v.name.0 == w.name.0 && v.index == w.index
 }
 
-fn are_sorts_same(v: &Var, w: &Var) -> bool
-    ensures { result ≡ same_sort v.now.sort w.now.sort }
-{
-    is_same(&v.sort, &w.sort)
-}
-
 /// Whether two variables are one.
 pub fn is_same_var(v: &Var, w: &Var) -> bool
     ensures { result ≡ same_var v.now w.now }
 {
-    is_namesake(v, w) && are_sorts_same(v, w)
+    is_namesake(v, w) && is_same(&v.sort, &w.sort)
 }
 
 /// Whether a variable is among them.

@@ -96,6 +96,7 @@ fn a_binder_is_renamed_where_it_captures(rt: HostRuntime) -> Result<(), Fail> {
     assert_eq!(rt; index_of(&store, captured)?, 1);
     let free = subst_sent(alloc, &mut store, p, &named(X, 0, 1), x)?;
     assert_eq!(rt; index_of(&store, free)?, 0);
+    assert_eq!(rt; free, p);
     let bound = subst_sent(alloc, &mut store, p, &named(Y, 0, 1), x)?;
     assert_eq!(rt; bound, p);
     Ok(())
@@ -144,6 +145,11 @@ fn a_term_takes_a_variables_place(rt: HostRuntime) -> Result<(), Fail> {
         TermNode::Var(v) => assert_eq!(rt; v.name, Y),
         TermNode::App(_, _, _) => return Err("no variable".into()),
     }
+    let without = grown(alloc, &mut store, y)?;
+    let left = subst_term(alloc, &mut store, without, &named(X, 0, 1), y)?;
+    assert_eq!(rt; left, without);
+    let by_itself = subst_term(alloc, &mut store, without, &named(Y, 0, 1), y)?;
+    assert_eq!(rt; by_itself, without);
     Ok(())
 }
 

@@ -5,6 +5,7 @@ use Rattle.ath_terms.specs.SortsIn.{IsSortedIn}
 use Rattle.ath_terms.specs.Trees.{term_at, sort_at, sent_at, Grows}
 use Rattle.ath_trees.specs.Measure.{sent_depth}
 use Rattle.ath_trees.specs.Substitution.{subst_sent}
+use Rattle.ath_subst.proofs.SameLaws.{Stay, AreSame}
 use Rattle.ath_subst.proofs.SentLaws.{sent_images}
 use Rattle.ath_subst.proofs.replacing.+put_sent.Given as goal
 
@@ -15,5 +16,6 @@ abbrev pub invariant-loop-i : goal.invariant-loop-i
 invariant-loop-i l = record {
   grows : Grows l.fn.store l.store;
   parts : AreSents l.store l.parts (sent_images (subst_sent l.x (term_at l.fn.store.terms l.by.0)) l.fn.store (take l.i l.from));
+  same : Stay (λ j. subst_sent l.x (term_at l.fn.store.terms l.by.0) (sent_at l.fn.store.sents j.0)) (λ j. sent_at l.fn.store.sents j.0) l.from (record { 0 = 0 }) l.i → AreSame l.fn.store l.store l.parts (take l.i l.from);
   sorted : (sig : Signature) → IsSortedIn sig l.fn.store → sort_at l.fn.store.sorts l.by.0 ≡ l.x.sort → IsSortedIn sig l.store;
 }

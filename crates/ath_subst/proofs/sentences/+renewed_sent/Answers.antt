@@ -1,12 +1,17 @@
-use Rattle.std.proofs.Common.{◌∙◌, sym, arith}
+use Rattle.std.proofs.Common.{◌≡◌, ap, subst, ◌∙◌, sym, arith}
 use Rattle.ath_sorts.specs.Sorts.{image}
 use Rattle.ath_trees.specs.SortUnder.{sent_at_sorts}
 use Rattle.ath_trees.specs.Under.{term_under}
 use Rattle.ath_trees.proofs.BinderLaws.{at_sorts-left}
 use Rattle.ath_trees.proofs.Sorting.{at_sorts-sorted}
-use Rattle.ath_terms.specs.Trees.{sent_at}
-use Rattle.ath_terms.proofs.Grow.{grows-then}
-use Rattle.ath_subst.proofs.BinderLaws.{body-falls, bound-tree, bound-valid}
+use Rattle.ath_terms.specs.Trees.{Trees, term_at, sent_at}
+use Rattle.ath_terms.proofs.Grow.{grows-then, sent_node-kept}
+use Rattle.ath_subst.proofs.BinderLaws.{body-falls, bound-tree, bound-valid, unmet-binder}
+use Rattle.ath_terms.specs.declared.node.SentNode.TheVariants as node
+use Rattle.ath_subst.proofs.SameSents.{atom-stays, equation-stays, conn-same-next, conn-same, bound-stays}
+use Rattle.ath_trees.specs.declared.node.Var.{Var}
+use Rattle.ath_terms.specs.SortsIn.{IsSortedIn}
+use Rattle.ath_trees.specs.Under.{var_under}
 use Rattle.ath_subst.proofs.SentLaws.{sorts-map, sorts-keep, kept-by, sorted-by, conn_node, bound_node, atom_node, equation_node, atom-tree, equation-tree, conn_part-deep, conn_part-inside, conn-step, conn-tree, conn-below}
 use Rattle.ath_subst.proofs.sentences.+renewed_sent.Goals as goal
 
@@ -26,6 +31,7 @@ loop-i-preserved t c = record {
   grows = grows-then _ _ _ c.loop-i.invariant.grows c.in_ok-part-in-Conn.ensures.grows;
   parts = rw c.in_ok-push-in-Conn.ensures.ok (conn-step (sent_at_sorts (image c.args.subst.now)) (term_under (image c.args.subst.now)) (sorts-map (image c.args.subst.now)) c.args.store.now c.args.p.0 c.in-Conn.c c.in-Conn.ids c.as_slice-from.result.now (conn_node c.args.store.now c.sent.result.now c.in_ok-node.node c.args.p.0 _ c.in_ok-node.ensures c.sent.ensures.tree c.sent.ensures.below c.in-Conn.c c.in-Conn.ids c.in-Conn.is) c.as_slice-from.ensures
       c.loop-i.store c.renewed_sent.new.store c.loop-i.parts c.loop-i.i (record { 0 = 0 }) c.in_ok-part-in-Conn.part c.requires (omega arith) c.loop-i.invariant.grows c.in_ok-part-in-Conn.ensures.grows c.loop-i.invariant.parts c.in_ok-part-in-Conn.ensures.tree);
+  same = λ sig h. rw c.in_ok-push-in-Conn.ensures.ok (conn-same-next (sent_at_sorts (image c.args.subst.now)) (term_under (image c.args.subst.now)) (sorts-map (image c.args.subst.now)) c.args.store.now c.args.p.0 c.in-Conn.c c.in-Conn.ids c.as_slice-from.result.now (conn_node c.args.store.now c.sent.result.now c.in_ok-node.node c.args.p.0 _ c.in_ok-node.ensures c.sent.ensures.tree c.sent.ensures.below c.in-Conn.c c.in-Conn.ids c.in-Conn.is) c.as_slice-from.ensures c.loop-i.store c.renewed_sent.new.store c.loop-i.parts c.loop-i.i (record { 0 = 0 }) c.in_ok-part-in-Conn.part (omega arith) (c.loop-i.invariant.same sig h) (λ e. c.in_ok-part-in-Conn.ensures.same sig (subst (IsSortedIn sig) (sym e) h)));
   sorted = λ sig h ok. c.in_ok-part-in-Conn.ensures.sorted sig (c.loop-i.invariant.sorted sig h ok) ok;
 }
 
@@ -47,50 +53,95 @@ keep_sent-requires-in-Conn-clause-kept t c = kept-by (sent_at_sorts (image c.arg
 
 pub renewed_sent-requires-in-Quant : goal.renewed_sent-requires-in-Quant
 renewed_sent-requires-in-Quant t c =
-    let d = body-falls (image c.args.subst.now) c.args.store.now c.args.p.0 c.in-Quant.k c.in-Quant.v c.in-Quant.body (bound_node c.args.store.now c.sent.result.now c.in_ok-node.node c.args.p.0 _ c.in_ok-node.ensures c.sent.ensures.tree c.sent.ensures.below c.in-Quant.k c.in-Quant.v c.in-Quant.body c.in-Quant.is) c.free_binder.new.store c.in_ok-binder-in-Quant.binder.body.0 c.in_ok-binder-in-Quant.ensures.body in
+    let d = body-falls (image c.args.subst.now) c.args.store.now c.args.p.0 c.in-Quant.k c.in_ok-own-in-Quant.own c.in-Quant.body (bound_node c.args.store.now c.sent.result.now c.in_ok-node.node c.args.p.0 _ c.in_ok-node.ensures c.sent.ensures.tree c.sent.ensures.below c.in-Quant.k c.in_ok-own-in-Quant.own c.in-Quant.body (c.in-Quant.is ∙ ap (λ (w : Var). node.Quant c.in-Quant.k w c.in-Quant.body) (sym c.in_ok-own-in-Quant.ensures))) c.free_binder.new.store c.in_ok-binder-in-Quant.binder.body.0 c.in_ok-binder-in-Quant.ensures.body in
     (omega (arith, c.decreases), c.in_ok-binder-in-Quant.ensures.body.0)
 
 pub keep_sent-requires-in-Quant-clause-kept : goal.keep_sent-requires-in-Quant-clause-kept
 keep_sent-requires-in-Quant-clause-kept t c = kept-by (sent_at_sorts (image c.args.subst.now)) (sorts-keep (image c.args.subst.now)) (sent_at c.args.store.now.sents c.args.p.0) _ c.sent_size-nodes.result c.sent_depth-levels.result
-    (bound-tree (image c.args.subst.now) c.args.store.now c.args.p.0 c.in-Quant.k c.in-Quant.v c.in-Quant.body (bound_node c.args.store.now c.sent.result.now c.in_ok-node.node c.args.p.0 _ c.in_ok-node.ensures c.sent.ensures.tree c.sent.ensures.below c.in-Quant.k c.in-Quant.v c.in-Quant.body c.in-Quant.is) c.free_binder.new.store c.renewed_sent-in-Quant.new.store c.in_ok-binder-in-Quant.binder.variable c.in_ok-variable-in-Quant.variable c.in_ok-binder-in-Quant.binder.body.0 c.in_ok-inner-in-Quant.inner.0 c.in_ok-binder-in-Quant.ensures.variable c.in_ok-binder-in-Quant.ensures.body c.in_ok-variable-in-Quant.ensures c.in_ok-inner-in-Quant.ensures.tree)
+    (bound-tree (image c.args.subst.now) c.args.store.now c.args.p.0 c.in-Quant.k c.in_ok-own-in-Quant.own c.in-Quant.body (bound_node c.args.store.now c.sent.result.now c.in_ok-node.node c.args.p.0 _ c.in_ok-node.ensures c.sent.ensures.tree c.sent.ensures.below c.in-Quant.k c.in_ok-own-in-Quant.own c.in-Quant.body (c.in-Quant.is ∙ ap (λ (w : Var). node.Quant c.in-Quant.k w c.in-Quant.body) (sym c.in_ok-own-in-Quant.ensures))) c.free_binder.new.store c.renewed_sent-in-Quant.new.store c.in_ok-binder-in-Quant.binder.variable c.in_ok-variable-in-Quant.variable c.in_ok-binder-in-Quant.binder.body.0 c.in_ok-inner-in-Quant.inner.0 c.in_ok-binder-in-Quant.ensures.variable c.in_ok-binder-in-Quant.ensures.body c.in_ok-variable-in-Quant.ensures c.in_ok-inner-in-Quant.ensures.tree)
     c.sent_size-nodes.ensures.same c.sent_depth-levels.ensures.same c.sent_size-nodes.ensures.few c.sent_depth-levels.ensures.few
 
-pub returns-in_ok-sent-in-Atom-clause-tree : goal.returns-in_ok-sent-in-Atom-clause-tree
-returns-in_ok-sent-in-Atom-clause-tree t c = let r = c.in_ok-sent-in-Atom.ensures.tree in (r.0, r.1 ∙ (atom-tree (sent_at_sorts (image c.args.subst.now)) (term_under (image c.args.subst.now)) (sorts-map (image c.args.subst.now)) c.args.store.now c.args.p.0 c.term_under.new.store _ c.in-Atom.t c.in_ok-term-in-Atom.term (atom_node c.args.store.now c.sent.result.now c.in_ok-node.node c.args.p.0 _ c.in_ok-node.ensures c.sent.ensures.tree c.sent.ensures.below c.in-Atom.t c.in-Atom.is) c.in_ok-term-in-Atom.ensures.tree.0))
+pub returns-in-Atom-clause-tree : goal.returns-in-Atom-clause-tree
+returns-in-Atom-clause-tree t c = let r = c.in_ok-sent-in-Atom.ensures.tree in (r.0, r.1 ∙ (atom-tree (sent_at_sorts (image c.args.subst.now)) (term_under (image c.args.subst.now)) (sorts-map (image c.args.subst.now)) c.args.store.now c.args.p.0 c.term_under.new.store _ c.in-Atom.t c.in_ok-term-in-Atom.term (atom_node c.args.store.now c.sent.result.now c.in_ok-node.node c.args.p.0 _ c.in_ok-node.ensures c.sent.ensures.tree c.sent.ensures.below c.in-Atom.t c.in-Atom.is) c.in_ok-term-in-Atom.ensures.tree.0))
 
-pub returns-in_ok-sent-in-Atom-clause-sorted : goal.returns-in_ok-sent-in-Atom-clause-sorted
-returns-in_ok-sent-in-Atom-clause-sorted t c = λ sig h ok. c.in_ok-sent-in-Atom.ensures.sorted sig (c.in_ok-term-in-Atom.ensures.sorted sig h ok)
+pub returns-in-Atom-clause-sorted : goal.returns-in-Atom-clause-sorted
+returns-in-Atom-clause-sorted t c = λ sig h ok. c.in_ok-sent-in-Atom.ensures.sorted sig (c.in_ok-term-in-Atom.ensures.sorted sig h ok)
     (sorted-by sig _ _ (atom-tree (sent_at_sorts (image c.args.subst.now)) (term_under (image c.args.subst.now)) (sorts-map (image c.args.subst.now)) c.args.store.now c.args.p.0 c.term_under.new.store _ c.in-Atom.t c.in_ok-term-in-Atom.term (atom_node c.args.store.now c.sent.result.now c.in_ok-node.node c.args.p.0 _ c.in_ok-node.ensures c.sent.ensures.tree c.sent.ensures.below c.in-Atom.t c.in-Atom.is) c.in_ok-term-in-Atom.ensures.tree.0)
     (at_sorts-sorted sig h.valid (image c.args.subst.now) ok (sent_at c.args.store.now.sents c.args.p.0) (h.sents c.args.p.0 c.requires)))
 
-pub returns-in_ok-sent-in-Eq-clause-tree : goal.returns-in_ok-sent-in-Eq-clause-tree
-returns-in_ok-sent-in-Eq-clause-tree t c = let r = c.in_ok-sent-in-Eq.ensures.tree in (
+pub returns-in-Eq-clause-tree : goal.returns-in-Eq-clause-tree
+returns-in-Eq-clause-tree t c = let r = c.in_ok-sent-in-Eq.ensures.tree in (
   r.0,
   r.1 ∙ (equation-tree (sent_at_sorts (image c.args.subst.now)) (term_under (image c.args.subst.now)) (sorts-map (image c.args.subst.now)) c.args.store.now c.args.p.0 c.term_under-in-Eq.new.store c.term_under-in-Eq-2.new.store c.in-Eq.s c.in-Eq.t c.in_ok-left-in-Eq.left c.in_ok-right-in-Eq.right (equation_node c.args.store.now c.sent.result.now c.in_ok-node.node c.args.p.0 _ c.in_ok-node.ensures c.sent.ensures.tree c.sent.ensures.below c.in-Eq.s c.in-Eq.t c.in-Eq.is)
       c.in_ok-left-in-Eq.ensures.grows c.in_ok-right-in-Eq.ensures.grows c.in_ok-left-in-Eq.ensures.tree.0 c.in_ok-right-in-Eq.ensures.tree.0),
 )
 
-pub returns-in_ok-sent-in-Eq-clause-sorted : goal.returns-in_ok-sent-in-Eq-clause-sorted
-returns-in_ok-sent-in-Eq-clause-sorted t c = λ sig h ok. c.in_ok-sent-in-Eq.ensures.sorted sig (c.in_ok-right-in-Eq.ensures.sorted sig (c.in_ok-left-in-Eq.ensures.sorted sig h ok) ok)
+pub returns-in-Eq-clause-sorted : goal.returns-in-Eq-clause-sorted
+returns-in-Eq-clause-sorted t c = λ sig h ok. c.in_ok-sent-in-Eq.ensures.sorted sig (c.in_ok-right-in-Eq.ensures.sorted sig (c.in_ok-left-in-Eq.ensures.sorted sig h ok) ok)
     (sorted-by sig _ _ (equation-tree (sent_at_sorts (image c.args.subst.now)) (term_under (image c.args.subst.now)) (sorts-map (image c.args.subst.now)) c.args.store.now c.args.p.0 c.term_under-in-Eq.new.store c.term_under-in-Eq-2.new.store c.in-Eq.s c.in-Eq.t c.in_ok-left-in-Eq.left c.in_ok-right-in-Eq.right (equation_node c.args.store.now c.sent.result.now c.in_ok-node.node c.args.p.0 _ c.in_ok-node.ensures c.sent.ensures.tree c.sent.ensures.below c.in-Eq.s c.in-Eq.t c.in-Eq.is)
     c.in_ok-left-in-Eq.ensures.grows c.in_ok-right-in-Eq.ensures.grows c.in_ok-left-in-Eq.ensures.tree.0 c.in_ok-right-in-Eq.ensures.tree.0)
     (at_sorts-sorted sig h.valid (image c.args.subst.now) ok (sent_at c.args.store.now.sents c.args.p.0) (h.sents c.args.p.0 c.requires)))
 
-pub returns-in_ok-sent-in-Conn-clause-tree : goal.returns-in_ok-sent-in-Conn-clause-tree
-returns-in_ok-sent-in-Conn-clause-tree t c = let r = c.in_ok-sent-in-Conn.ensures.tree in (r.0, r.1 ∙ (conn-tree (sent_at_sorts (image c.args.subst.now)) (term_under (image c.args.subst.now)) (sorts-map (image c.args.subst.now)) c.args.store.now c.args.p.0 c.in-Conn.c c.in-Conn.ids c.as_slice-from.result.now (conn_node c.args.store.now c.sent.result.now c.in_ok-node.node c.args.p.0 _ c.in_ok-node.ensures c.sent.ensures.tree c.sent.ensures.below c.in-Conn.c c.in-Conn.ids c.in-Conn.is) c.as_slice-from.ensures c.loop-i.store c.loop-i.parts c.loop-i.i (omega arith) c.loop-i.invariant.parts))
+pub returns-in-Conn-clause-tree : goal.returns-in-Conn-clause-tree
+returns-in-Conn-clause-tree t c = let r = c.in_ok-sent-in-Conn.ensures.tree in (r.0, r.1 ∙ (conn-tree (sent_at_sorts (image c.args.subst.now)) (term_under (image c.args.subst.now)) (sorts-map (image c.args.subst.now)) c.args.store.now c.args.p.0 c.in-Conn.c c.in-Conn.ids c.as_slice-from.result.now (conn_node c.args.store.now c.sent.result.now c.in_ok-node.node c.args.p.0 _ c.in_ok-node.ensures c.sent.ensures.tree c.sent.ensures.below c.in-Conn.c c.in-Conn.ids c.in-Conn.is) c.as_slice-from.ensures c.loop-i.store c.loop-i.parts c.loop-i.i (omega arith) c.loop-i.invariant.parts))
 
-pub returns-in_ok-sent-in-Conn-clause-sorted : goal.returns-in_ok-sent-in-Conn-clause-sorted
-returns-in_ok-sent-in-Conn-clause-sorted t c = λ sig h ok. c.in_ok-sent-in-Conn.ensures.sorted sig (c.loop-i.invariant.sorted sig h ok)
+pub returns-in-Conn-clause-sorted : goal.returns-in-Conn-clause-sorted
+returns-in-Conn-clause-sorted t c = λ sig h ok. c.in_ok-sent-in-Conn.ensures.sorted sig (c.loop-i.invariant.sorted sig h ok)
     (sorted-by sig _ _ (conn-tree (sent_at_sorts (image c.args.subst.now)) (term_under (image c.args.subst.now)) (sorts-map (image c.args.subst.now)) c.args.store.now c.args.p.0 c.in-Conn.c c.in-Conn.ids c.as_slice-from.result.now (conn_node c.args.store.now c.sent.result.now c.in_ok-node.node c.args.p.0 _ c.in_ok-node.ensures c.sent.ensures.tree c.sent.ensures.below c.in-Conn.c c.in-Conn.ids c.in-Conn.is) c.as_slice-from.ensures c.loop-i.store c.loop-i.parts c.loop-i.i (omega arith) c.loop-i.invariant.parts)
     (at_sorts-sorted sig h.valid (image c.args.subst.now) ok (sent_at c.args.store.now.sents c.args.p.0) (h.sents c.args.p.0 c.requires)))
 
-pub returns-in_ok-sent-in-Quant-clause-tree : goal.returns-in_ok-sent-in-Quant-clause-tree
-returns-in_ok-sent-in-Quant-clause-tree t c = let r = c.in_ok-sent-in-Quant.ensures.tree in (r.0, r.1 ∙ (bound-tree (image c.args.subst.now) c.args.store.now c.args.p.0 c.in-Quant.k c.in-Quant.v c.in-Quant.body (bound_node c.args.store.now c.sent.result.now c.in_ok-node.node c.args.p.0 _ c.in_ok-node.ensures c.sent.ensures.tree c.sent.ensures.below c.in-Quant.k c.in-Quant.v c.in-Quant.body c.in-Quant.is) c.free_binder.new.store c.renewed_sent-in-Quant.new.store c.in_ok-binder-in-Quant.binder.variable c.in_ok-variable-in-Quant.variable c.in_ok-binder-in-Quant.binder.body.0 c.in_ok-inner-in-Quant.inner.0 c.in_ok-binder-in-Quant.ensures.variable c.in_ok-binder-in-Quant.ensures.body c.in_ok-variable-in-Quant.ensures c.in_ok-inner-in-Quant.ensures.tree))
+pub returns-clause-tree : goal.returns-clause-tree
+returns-clause-tree t c = let r = c.in_ok-sent-in-Quant.ensures.tree in (r.0, r.1 ∙ (bound-tree (image c.args.subst.now) c.args.store.now c.args.p.0 c.in-Quant.k c.in_ok-own-in-Quant.own c.in-Quant.body (bound_node c.args.store.now c.sent.result.now c.in_ok-node.node c.args.p.0 _ c.in_ok-node.ensures c.sent.ensures.tree c.sent.ensures.below c.in-Quant.k c.in_ok-own-in-Quant.own c.in-Quant.body (c.in-Quant.is ∙ ap (λ (w : Var). node.Quant c.in-Quant.k w c.in-Quant.body) (sym c.in_ok-own-in-Quant.ensures))) c.free_binder.new.store c.renewed_sent-in-Quant.new.store c.in_ok-binder-in-Quant.binder.variable c.in_ok-variable-in-Quant.variable c.in_ok-binder-in-Quant.binder.body.0 c.in_ok-inner-in-Quant.inner.0 c.in_ok-binder-in-Quant.ensures.variable c.in_ok-binder-in-Quant.ensures.body c.in_ok-variable-in-Quant.ensures c.in_ok-inner-in-Quant.ensures.tree))
 
-pub returns-in_ok-sent-in-Quant-clause-sorted : goal.returns-in_ok-sent-in-Quant-clause-sorted
-returns-in_ok-sent-in-Quant-clause-sorted t c = λ sig h ok. c.in_ok-sent-in-Quant.ensures.sorted sig (c.in_ok-inner-in-Quant.ensures.sorted sig (c.in_ok-binder-in-Quant.ensures.sorted sig h (bound-valid sig c.args.store.now c.args.p.0 c.in-Quant.k c.in-Quant.v c.in-Quant.body (bound_node c.args.store.now c.sent.result.now c.in_ok-node.node c.args.p.0 _ c.in_ok-node.ensures c.sent.ensures.tree c.sent.ensures.below c.in-Quant.k c.in-Quant.v c.in-Quant.body c.in-Quant.is) (h.sents c.args.p.0 c.requires))) ok)
-    (sorted-by sig _ _ (bound-tree (image c.args.subst.now) c.args.store.now c.args.p.0 c.in-Quant.k c.in-Quant.v c.in-Quant.body (bound_node c.args.store.now c.sent.result.now c.in_ok-node.node c.args.p.0 _ c.in_ok-node.ensures c.sent.ensures.tree c.sent.ensures.below c.in-Quant.k c.in-Quant.v c.in-Quant.body c.in-Quant.is) c.free_binder.new.store c.renewed_sent-in-Quant.new.store c.in_ok-binder-in-Quant.binder.variable c.in_ok-variable-in-Quant.variable c.in_ok-binder-in-Quant.binder.body.0 c.in_ok-inner-in-Quant.inner.0 c.in_ok-binder-in-Quant.ensures.variable c.in_ok-binder-in-Quant.ensures.body c.in_ok-variable-in-Quant.ensures c.in_ok-inner-in-Quant.ensures.tree)
+pub returns-clause-sorted : goal.returns-clause-sorted
+returns-clause-sorted t c = λ sig h ok. c.in_ok-sent-in-Quant.ensures.sorted sig (c.in_ok-inner-in-Quant.ensures.sorted sig (c.in_ok-binder-in-Quant.ensures.sorted sig h (bound-valid sig c.args.store.now c.args.p.0 c.in-Quant.k c.in_ok-own-in-Quant.own c.in-Quant.body (bound_node c.args.store.now c.sent.result.now c.in_ok-node.node c.args.p.0 _ c.in_ok-node.ensures c.sent.ensures.tree c.sent.ensures.below c.in-Quant.k c.in_ok-own-in-Quant.own c.in-Quant.body (c.in-Quant.is ∙ ap (λ (w : Var). node.Quant c.in-Quant.k w c.in-Quant.body) (sym c.in_ok-own-in-Quant.ensures))) (h.sents c.args.p.0 c.requires))) ok)
+    (sorted-by sig _ _ (bound-tree (image c.args.subst.now) c.args.store.now c.args.p.0 c.in-Quant.k c.in_ok-own-in-Quant.own c.in-Quant.body (bound_node c.args.store.now c.sent.result.now c.in_ok-node.node c.args.p.0 _ c.in_ok-node.ensures c.sent.ensures.tree c.sent.ensures.below c.in-Quant.k c.in_ok-own-in-Quant.own c.in-Quant.body (c.in-Quant.is ∙ ap (λ (w : Var). node.Quant c.in-Quant.k w c.in-Quant.body) (sym c.in_ok-own-in-Quant.ensures))) c.free_binder.new.store c.renewed_sent-in-Quant.new.store c.in_ok-binder-in-Quant.binder.variable c.in_ok-variable-in-Quant.variable c.in_ok-binder-in-Quant.binder.body.0 c.in_ok-inner-in-Quant.inner.0 c.in_ok-binder-in-Quant.ensures.variable c.in_ok-binder-in-Quant.ensures.body c.in_ok-variable-in-Quant.ensures c.in_ok-inner-in-Quant.ensures.tree)
     (at_sorts-sorted sig h.valid (image c.args.subst.now) ok (sent_at c.args.store.now.sents c.args.p.0) (h.sents c.args.p.0 c.requires)))
 
 pub returns-then-keeps_sent-clause-tree : goal.returns-then-keeps_sent-clause-tree
 returns-then-keeps_sent-clause-tree t c = (c.requires, sym (at_sorts-left (image c.args.subst.now) (sent_at c.args.store.now.sents c.args.p.0) (c.keeps_sent.ensures c.if-keeps_sent.true)))
+
+pub keep_sent-requires-clause-from : goal.keep_sent-requires-clause-from
+keep_sent-requires-clause-from t c = rw c.in_ok-node.ensures (sent_node-kept c.args.store.now _ c.args.p.0 c.sent.result.now c.in_ok-term-in-Atom.ensures.grows c.requires c.sent.ensures.below c.sent.ensures.tree)
+
+pub keep_sent-requires-in-Eq-clause-from : goal.keep_sent-requires-in-Eq-clause-from
+keep_sent-requires-in-Eq-clause-from t c = rw c.in_ok-node.ensures (sent_node-kept c.args.store.now _ c.args.p.0 c.sent.result.now (grows-then _ _ _ c.in_ok-left-in-Eq.ensures.grows c.in_ok-right-in-Eq.ensures.grows) c.requires c.sent.ensures.below c.sent.ensures.tree)
+
+pub keep_sent-requires-in-Conn-clause-from : goal.keep_sent-requires-in-Conn-clause-from
+keep_sent-requires-in-Conn-clause-from t c = rw c.in_ok-node.ensures (sent_node-kept c.args.store.now _ c.args.p.0 c.sent.result.now c.loop-i.invariant.grows c.requires c.sent.ensures.below c.sent.ensures.tree)
+
+pub keep_sent-requires-in-Quant-clause-from : goal.keep_sent-requires-in-Quant-clause-from
+keep_sent-requires-in-Quant-clause-from t c = rw c.in_ok-node.ensures (sent_node-kept c.args.store.now _ c.args.p.0 c.sent.result.now (grows-then _ _ _ c.in_ok-binder-in-Quant.ensures.grows c.in_ok-inner-in-Quant.ensures.grows) c.requires c.sent.ensures.below c.sent.ensures.tree)
+
+pub returns-in-Atom-clause-same : goal.returns-in-Atom-clause-same
+returns-in-Atom-clause-same t c = λ sig h left.
+    let x = atom-stays (sent_at_sorts (image c.args.subst.now)) (term_under (image c.args.subst.now)) (sorts-map (image c.args.subst.now)) c.args.store.now c.args.p.0 left _ c.in-Atom.t (atom_node c.args.store.now c.sent.result.now c.in_ok-node.node c.args.p.0 _ c.in_ok-node.ensures c.sent.ensures.tree c.sent.ensures.below c.in-Atom.t c.in-Atom.is) in
+    let a = c.in_ok-term-in-Atom.ensures.same sig h x in
+    let r = c.in_ok-sent-in-Atom.ensures.same (c.in-Atom.is ∙ ap node.Atom (sym a.0)) in
+    (r.0, r.1 ∙ a.1)
+
+pub returns-in-Eq-clause-same : goal.returns-in-Eq-clause-same
+returns-in-Eq-clause-same t c = λ sig h left.
+    let x = equation-stays (sent_at_sorts (image c.args.subst.now)) (term_under (image c.args.subst.now)) (sorts-map (image c.args.subst.now)) c.args.store.now c.args.p.0 left _ c.in-Eq.s c.in-Eq.t (equation_node c.args.store.now c.sent.result.now c.in_ok-node.node c.args.p.0 _ c.in_ok-node.ensures c.sent.ensures.tree c.sent.ensures.below c.in-Eq.s c.in-Eq.t c.in-Eq.is) in
+    let a = c.in_ok-left-in-Eq.ensures.same sig h x.0 in
+    let b = c.in_ok-right-in-Eq.ensures.same sig (subst (IsSortedIn sig) (sym a.1) h) (subst (λ (z : Trees). term_under (image c.args.subst.now) (term_at z.terms c.in-Eq.t.0) ≡ term_at z.terms c.in-Eq.t.0) (sym a.1) x.1) in
+    let r = c.in_ok-sent-in-Eq.ensures.same (c.in-Eq.is ∙ (λ i. node.Eq (sym a.0 i) (sym b.0 i))) in
+    (r.0, r.1 ∙ b.1 ∙ a.1)
+
+pub returns-in-Conn-clause-same : goal.returns-in-Conn-clause-same
+returns-in-Conn-clause-same t c = λ sig h left.
+    let a = conn-same (sent_at_sorts (image c.args.subst.now)) (term_under (image c.args.subst.now)) (sorts-map (image c.args.subst.now)) c.args.store.now c.args.p.0 c.in-Conn.c c.in-Conn.ids c.as_slice-from.result.now (conn_node c.args.store.now c.sent.result.now c.in_ok-node.node c.args.p.0 _ c.in_ok-node.ensures c.sent.ensures.tree c.sent.ensures.below c.in-Conn.c c.in-Conn.ids c.in-Conn.is) c.as_slice-from.ensures c.loop-i.store c.loop-i.parts c.loop-i.i (record { 0 = 0 }) (omega arith) (c.loop-i.invariant.same sig h) left in
+    let r = c.in_ok-sent-in-Conn.ensures.same (c.in-Conn.is ∙ ap (node.Conn c.in-Conn.c) (sym a.0)) in
+    (r.0, r.1 ∙ a.1)
+
+pub returns-clause-same : goal.returns-clause-same
+returns-clause-same t c = λ sig h left.
+    let p = sent_at c.args.store.now.sents c.in-Quant.body.0 in
+    let b = bound-stays (image c.args.subst.now) c.args.store.now c.args.p.0 c.in-Quant.k c.in_ok-own-in-Quant.own c.in-Quant.body (bound_node c.args.store.now c.sent.result.now c.in_ok-node.node c.args.p.0 _ c.in_ok-node.ensures c.sent.ensures.tree c.sent.ensures.below c.in-Quant.k c.in_ok-own-in-Quant.own c.in-Quant.body (c.in-Quant.is ∙ ap (λ (w : Var). node.Quant c.in-Quant.k w c.in-Quant.body) (sym c.in_ok-own-in-Quant.ensures))) left in
+    let d = c.in_ok-binder-in-Quant.ensures.same b.unmet in
+    let x : sent_at_sorts (image c.args.subst.now) (sent_at c.args.store.now.sents c.in_ok-binder-in-Quant.binder.body.0) ≡ sent_at c.args.store.now.sents c.in_ok-binder-in-Quant.binder.body.0 = rw d.0 b.body in
+    let e = c.in_ok-inner-in-Quant.ensures.same sig (subst (IsSortedIn sig) (sym d.1) h) (subst (λ (z : Trees). sent_at_sorts (image c.args.subst.now) (sent_at z.sents c.in_ok-binder-in-Quant.binder.body.0) ≡ sent_at z.sents c.in_ok-binder-in-Quant.binder.body.0) (sym d.1) x) in
+    let v = c.in_ok-variable-in-Quant.ensures ∙ ap (var_under (image c.args.subst.now)) (c.in_ok-binder-in-Quant.ensures.variable ∙ (unmet-binder (image c.args.subst.now) c.in_ok-own-in-Quant.own p b.unmet).0) ∙ b.variable in
+    let y = e.0 ∙ d.0 in
+    let r = c.in_ok-sent-in-Quant.ensures.same ((c.in-Quant.is ∙ ap (λ (w : Var). node.Quant c.in-Quant.k w c.in-Quant.body) (sym c.in_ok-own-in-Quant.ensures)) ∙ (λ i. node.Quant c.in-Quant.k (sym v i) (sym y i))) in
+    (r.0, r.1 ∙ e.1 ∙ d.1)

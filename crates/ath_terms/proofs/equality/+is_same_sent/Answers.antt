@@ -1,7 +1,9 @@
-use Rattle.std.proofs.Common.{sym, arith}
+use Rattle.std.proofs.Common.{rules, ◌≡◌, sym, ◌∙◌, arith}
+use Rattle.ath_trees.specs.Tree.{bound}
 use Rattle.ath_terms.specs.Trees.{sent_at}
 use Rattle.ath_terms.proofs.Parts.{map-at}
 use Rattle.ath_terms.proofs.ConnParts.{conn_is_no_atom, conns_are_same}
+use Rattle.ath_terms.proofs.VariableLaws.{var_told}
 use Rattle.ath_terms.proofs.equality.+is_same_sent.Goals as goal
 
 pub returns-in-Conn-sent : goal.returns-in-Conn-sent
@@ -27,3 +29,28 @@ returns-then-not-is_same_sent t c = (
       let r = map-at (λ i. sent_at c.args.store.now.sents i.0) c.as_slice-xs.result.now c.as_slice-ys.result.now c.loop-i.i _ _ (omega arith) (omega arith) q in
       c.if-not-is_same_sent.ensures.1 r,
 )
+
+pub returns-then-not-is_same_var : goal.returns-then-not-is_same_var
+returns-then-not-is_same_var t c = (
+  λ e. absurd (cc),
+  λ e.
+      let p : bound c.in-Quant.k c.in-Quant.v (sent_at c.args.store.now.sents c.in-Quant.body.0) ≡ sent_at c.args.store.now.sents c.args.p.0 = rw c.in-Quant.is at c.sent.ensures.tree in
+      let q : bound c.in-Quant-sent-4.l c.in-Quant-sent-4.w (sent_at c.args.store.now.sents c.in-Quant-sent-4.other.0) ≡ sent_at c.args.store.now.sents c.args.q.0 = rw c.in-Quant-sent-4.is at c.sent-in-Quant.ensures.tree in
+      let r : bound c.in-Quant.k c.in-Quant.v (sent_at c.args.store.now.sents c.in-Quant.body.0) ≡ bound c.in-Quant-sent-4.l c.in-Quant-sent-4.w (sent_at c.args.store.now.sents c.in-Quant-sent-4.other.0) = p ∙ e ∙ sym q in
+      let v : c.in-Quant.v ≡ c.in-Quant-sent-4.w = cc in
+      let t = (var_told c.is_same_var.result c.in-Quant.v c.in-Quant-sent-4.w c.is_same_var.ensures).1 v in
+      let f = c.if-not-is_same_var.true in
+      absurd (cc),
+)
+
+pub returns-else-not-is_same_var : goal.returns-else-not-is_same_var
+returns-else-not-is_same_var t c =
+    let v : c.in-Quant.v ≡ c.in-Quant-sent-4.w = (var_told c.is_same_var.result c.in-Quant.v c.in-Quant-sent-4.w c.is_same_var.ensures).0 c.if-not-is_same_var.false in
+    let p : bound c.in-Quant.k c.in-Quant.v (sent_at c.args.store.now.sents c.in-Quant.body.0) ≡ sent_at c.args.store.now.sents c.args.p.0 = rw c.in-Quant.is at c.sent.ensures.tree in
+    let q : bound c.in-Quant-sent-4.l c.in-Quant-sent-4.w (sent_at c.args.store.now.sents c.in-Quant-sent-4.other.0) ≡ sent_at c.args.store.now.sents c.args.q.0 = rw c.in-Quant-sent-4.is at c.sent-in-Quant.ensures.tree in
+    let k : c.in-Quant.k ≡ c.in-Quant-sent-4.l = search rules in (
+      λ e. let x = c.is_same_sent-in-Quant-sent-4.ensures.0 e in sym p ∙ (λ i. bound (k i) (v i) (x i)) ∙ q,
+      λ e.
+          let r : bound c.in-Quant.k c.in-Quant.v (sent_at c.args.store.now.sents c.in-Quant.body.0) ≡ bound c.in-Quant-sent-4.l c.in-Quant-sent-4.w (sent_at c.args.store.now.sents c.in-Quant-sent-4.other.0) = p ∙ e ∙ sym q in
+          c.is_same_sent-in-Quant-sent-4.ensures.1 (cc),
+    )

@@ -1,9 +1,18 @@
-use Rattle.std.proofs.Common.{◌≡◌, ap, refl, arith}
+use Rattle.std.proofs.Common.{◌≡◌, ap, refl, sym, ◌∙◌, arith}
 use Rattle.ath_sorts.specs.declared.sorts.Sym.{Sym}
+use Rattle.ath_trees.specs.Tree.{var}
 use Rattle.ath_terms.specs.Trees.{term_at}
 use Rattle.ath_terms.proofs.Parts.{map-lengths, map-at, map-take-all, same_apps, apps_same}
+use Rattle.ath_terms.proofs.VariableLaws.{var_told}
 use Rattle.ath_terms.proofs.equality.+is_same_term.Goals as goal
 use Rattle.ath_terms.proofs.equality.+is_same_term.Goals.{then-f-g-via-then-f-g, then-f-g-via-else-f-g+then-xs-ys}
+
+pub returns-in-Var-term : goal.returns-in-Var-term
+returns-in-Var-term t c =
+    let h = var_told c.is_same_var.result c.in-Var.v c.in-Var-term.w c.is_same_var.ensures in
+    let p : var c.in-Var.v ≡ term_at c.args.store.now.terms c.args.s.0 = rw c.in-Var.is at c.term.ensures.tree in
+    let q : var c.in-Var-term.w ≡ term_at c.args.store.now.terms c.args.t.0 = rw c.in-Var-term.is at c.term-in-Var.ensures.tree in
+    (λ e. sym p ∙ ap var (h.0 e) ∙ q, λ e. h.1 (let r : var c.in-Var.v ≡ var c.in-Var-term.w = p ∙ e ∙ sym q in cc))
 
 pub returns-then-f-g : goal.returns-then-f-g
 returns-then-f-g t c = (

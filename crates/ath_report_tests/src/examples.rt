@@ -19,7 +19,7 @@ pub(crate) fn text_of(alloc: Global, parts: &[(&[u8], u64)]) -> Result<Vec<u8>, 
     Ok(text)
 }
 
-const EXAMPLES: [Example; 30] = [
+const EXAMPLES: [Example; 29] = [
     // BadChar
     (
         &[(b"declare A: Boolean\nA \\ A\n", 1)],
@@ -186,26 +186,6 @@ const EXAMPLES: [Example; 30] = [
     (
         &[(b"declare mp: Boolean\n(!mp true)\n", 1)],
         "Symbols: mp\nError: \"x.ath\":2:1: NotMethod\n",
-    ),
-    // LineTooLong
-    (
-        &[
-            (
-                b"domain N\ndomain (T 'a 'b 'c 'd 'e 'f 'g 'h 'i 'j 'k 'l 'm 'n 'o 'p 'q 'r 's 't 'u 'v 'w 'x 'y)\ndeclare c: (T",
-                1,
-            ),
-            (
-                b" (T N N N N N N N N N N N N N N N N N N N N N N N N N)",
-                25,
-            ),
-            (
-                b")\ndeclare P: ('S) ['S 'S 'S 'S 'S 'S 'S 'S] -> Boolean\n(and",
-                1,
-            ),
-            (b" (P c ?x ?x ?x ?x ?x ?x ?x)", 1900),
-            (b")\n", 1),
-        ],
-        "Domain: N\nDomain: T\nSymbols: c\nSymbols: P\nError: \"x.ath\":5:1: LineTooLong\n",
     ),
     // TooManyLoads
     (

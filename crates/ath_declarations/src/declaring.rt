@@ -88,6 +88,21 @@ pub fn declare(
     Ok(())
 }
 
+/// Refuses symbols as `declare` does, and adds none.
+pub fn check_symbols(
+    alloc: Global,
+    sig: &Signature,
+    names: &[Sym],
+    list: &Option<Items<Sym>>,
+    args: &[SortText],
+    result_sort: &SortText,
+) -> Result<(), DeclareError>
+    ensures { MatchTest (declared sig.now names.now list.now args.now result_sort.now) result }
+{
+    let shape = shape_of(alloc, list, args, result_sort)?;
+    check_names(alloc, sig, names, &shape)
+}
+
 fn shape_of(
     alloc: Global,
     list: &Option<Items<Sym>>,

@@ -7,5 +7,5 @@ pub mod laws;
 mod params;
 pub mod texts;
 
-pub use declaring::{DeclareError, declare, declare_domain};
+pub use declaring::{DeclareError, check_symbols, declare, declare_domain};
 pub use texts::sort_of_text;

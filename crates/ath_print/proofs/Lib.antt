@@ -1,3 +1,4 @@
+mod LineLaws
 mod PieceLaws
 pub mod PrefixLaws
 mod Rows

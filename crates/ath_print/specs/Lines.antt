@@ -1,5 +1,5 @@
 -- The line of an event.
-use Rattle.std.specs.Prelude.{ℕ, ◌+◌, ◌/◌, ◌%◌, ◌||◌, ◌==◌, nat_lt, List, [], ◌∷◌, ◌++◌, map, slice_index_or, codes, if◌then◌else◌}
+use Rattle.std.specs.Prelude.{ℕ, ◌+◌, ◌/◌, ◌%◌, ◌||◌, ◌==◌, nat_lt, List, [], ◌∷◌, ◌++◌, length, map, slice_index_or, codes, if◌then◌else◌}
 use Rattle.std.specs.List.{flat_map}
 use Rattle.std.specs.Fmt.{decimal}
 use Rattle.ath_sorts.specs.declared.sorts.Sym.{Sym}
@@ -9,7 +9,7 @@ use Rattle.ath_trees.specs.Tree.{Term, Sent}
 use Rattle.ath_env.specs.Values.{Value, a_term, a_sentence, a_symbol, a_connective, a_quantifier, a_back, a_method}
 use Rattle.ath_env.specs.LookUp.{text_of}
 use Rattle.ath_print.specs.declared.fault.FaultKind.{FaultKind}
-use Rattle.ath_print.specs.declared.fault.FaultKind.TheVariants.{BadUtf8, BadChar, OpenString, NameTooLong, Unexpected, Unclosed, KindMix, TooDeep, NotBuilt, Redeclared, UnknownSort, Arity, LooseParam, TooWide, SortTooLarge, Unbound, FileTooLong, TooManyLoads, SortClash, ArgCount, NotBoolean, TooLarge, TooNested, WrongKind, WrongShape, NotInBase, NotApplicable, NotMethod, NotSentence}
+use Rattle.ath_print.specs.declared.fault.FaultKind.TheVariants.{BadUtf8, BadChar, OpenString, NameTooLong, Unexpected, Unclosed, KindMix, TooDeep, NotBuilt, Redeclared, UnknownSort, Arity, LooseParam, TooWide, SortTooLarge, Unbound, FileTooLong, TooManyLoads, LineTooLong, SortClash, ArgCount, NotBoolean, TooLarge, TooNested, WrongKind, WrongShape, NotInBase, NotApplicable, NotMethod, NotSentence}
 use Rattle.ath_print.specs.Events.{Argument, sentence_named, term_named, sort_named, variable_named, name_named, number_named, Refusal, Event, domain_added, symbols_added, asserted, proved, shown, refused, exhausted}
 use Rattle.ath_print.specs.Printers.{Printer, word, spaced}
 pub use Rattle.ath_print.specs.Prefix.{conn_text, quant_text}
@@ -80,6 +80,7 @@ kind_text SortTooLarge = codes "SortTooLarge"
 kind_text Unbound = codes "Unbound"
 kind_text FileTooLong = codes "FileTooLong"
 kind_text TooManyLoads = codes "TooManyLoads"
+kind_text LineTooLong = codes "LineTooLong"
 kind_text SortClash = codes "SortClash"
 kind_text ArgCount = codes "ArgCount"
 kind_text NotBoolean = codes "NotBoolean"
@@ -108,19 +109,32 @@ arguments_text names sig args = (spaced (map (argument_printed names sig) args) 
 abbrev pub refusal_text : List (List ℕ) → Signature → Refusal → List ℕ
 refusal_text names sig why = kind_text why.kind ++ arguments_text names sig why.args
 
--- a place begins with the name of its file
-abbrev pub place_text : List (List ℕ) → Pos → List ℕ
-place_text files at = quoted (slice_index_or files at.file []) ++ codes ":" ++ decimal at.line ++ codes ":" ++ decimal at.col
+-- how the file of a place is written, by its number: as its name in quotes; or not at all, where a line is only counted
+abbrev pub quoted_file : List (List ℕ) → ℕ → List ℕ
+quoted_file files number = quoted (slice_index_or files number [])
 
-abbrev pub text_of_event : List (List ℕ) → Signature → List (List ℕ) → Event → List ℕ
-text_of_event names sig files (domain_added n) = codes "Domain: " ++ text_of names n
-text_of_event names sig files (symbols_added ns) = codes "Symbols: " ++ listed names ns
-text_of_event names sig files (asserted p) = codes "Assertion: " ++ printed names sig p
-text_of_event names sig files (proved p) = codes "Theorem: " ++ printed names sig p
-text_of_event names sig files (shown v) = shown_text names sig v
-text_of_event names sig files (refused at why) = codes "Error: " ++ place_text files at ++ codes ": " ++ refusal_text names sig why
-text_of_event names sig files (exhausted at) = codes "Fuel: " ++ place_text files at ++ codes ": out of fuel"
+abbrev pub no_file : ℕ → List ℕ
+no_file number = []
+
+abbrev pub place_text : (ℕ → List ℕ) → Pos → List ℕ
+place_text file at = file at.file ++ codes ":" ++ decimal at.line ++ codes ":" ++ decimal at.col
+
+abbrev pub text_of_event : List (List ℕ) → Signature → (ℕ → List ℕ) → Event → List ℕ
+text_of_event names sig file (domain_added n) = codes "Domain: " ++ text_of names n
+text_of_event names sig file (symbols_added ns) = codes "Symbols: " ++ listed names ns
+text_of_event names sig file (asserted p) = codes "Assertion: " ++ printed names sig p
+text_of_event names sig file (proved p) = codes "Theorem: " ++ printed names sig p
+text_of_event names sig file (shown v) = shown_text names sig v
+text_of_event names sig file (refused at why) = codes "Error: " ++ place_text file at ++ codes ": " ++ refusal_text names sig why
+text_of_event names sig file (exhausted at) = codes "Fuel: " ++ place_text file at ++ codes ": out of fuel"
 
 -- a line ends with one LF
 abbrev pub line_of : List (List ℕ) → Signature → List (List ℕ) → Event → List ℕ
-line_of names sig files e = text_of_event names sig files e ++ codes "\n"
+line_of names sig files e = text_of_event names sig (quoted_file files) e ++ codes "\n"
+
+-- the line as far as its bytes count: without the name of a file and its quotes
+abbrev pub counted_line : List (List ℕ) → Signature → Event → List ℕ
+counted_line names sig e = text_of_event names sig no_file e ++ codes "\n"
+
+abbrev pub bytes_of_line : List (List ℕ) → Signature → Event → ℕ
+bytes_of_line names sig e = length (counted_line names sig e)

@@ -1,5 +1,5 @@
 -- What the code's faults and events stand for.
-use Rattle.std.specs.Prelude.{◌≡◌, ◌<◌, map, length}
+use Rattle.std.specs.Prelude.{◌≡◌, ◌<◌, ℕ, List, Option, Some, None, map, length}
 use Rattle.std.specs.List.{All}
 use Rattle.ath_terms.specs.Trees.{Trees, term_at, sent_at}
 use Rattle.ath_env.specs.Stands.{value_at, IsIn as IsValueIn}
@@ -8,6 +8,7 @@ use Rattle.ath_print.specs.declared.fault.FaultArg.{FaultArg}
 use Rattle.ath_print.specs.declared.fault.FaultArg.TheVariants.{Sent, Term, Sort, Name, SortName, Number}
 use Rattle.ath_print.specs.declared.event.Event.{Event as Told}
 use Rattle.ath_print.specs.declared.event.Event.TheVariants.{Domain, Symbols, Assertion, Theorem, Shown, Error, Fuel}
+use Rattle.ath_print.specs.Lines.{quoted_file, no_file}
 use Rattle.ath_print.specs.Events.{Argument, sentence_named, term_named, sort_named, variable_named, name_named, number_named, Refusal, Event, domain_added, symbols_added, asserted, proved, shown, refused, exhausted}
 
 abbrev pub argument_of : Trees → FaultArg → Argument
@@ -56,3 +57,8 @@ IsEventIn s (Fuel at) = Unit {0}
 
 abbrev pub IsEvent : Trees → Told → Event → Type 0
 IsEvent s e x = IsEventIn s e × (event_of s e ≡ x)
+
+-- how the file of a place is written, where names of files are
+abbrev pub file_of : Option (List (List ℕ)) → ℕ → List ℕ
+file_of (Some files) = quoted_file files
+file_of None = no_file

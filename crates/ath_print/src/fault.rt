@@ -28,6 +28,7 @@ pub enum FaultKind {
     Unbound,
     FileTooLong,
     TooManyLoads,
+    LineTooLong,
     SortClash,
     ArgCount,
     NotBoolean,

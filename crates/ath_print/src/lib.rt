@@ -4,6 +4,7 @@
 mod draft;
 pub mod event;
 pub mod fault;
+pub mod limits;
 pub mod lines;
 mod pieces;
 mod sents;
@@ -13,5 +14,5 @@ mod words;
 
 pub use event::Event;
 pub use fault::{Fault, FaultArg, FaultKind};
-pub use lines::line;
+pub use lines::{line, line_bytes};
 pub use pieces::{push, push_quoted};

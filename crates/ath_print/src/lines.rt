@@ -1,20 +1,21 @@
 // The line of an event.
 
-ghost use Rattle.std.specs.Prelude.{◌≡◌, ◌<◌, ◌++◌, [], ◌∷◌, IfOk, OnOk, length, map, codes, slice_index_or};
+ghost use Rattle.std.specs.Prelude.{◌≡◌, ◌<◌, ◌+◌, ◌++◌, [], ◌∷◌, IfOk, OnOk, codes, length, map, min, option_map};
+ghost use Rattle.std.specs.Fmt.{decimal};
 ghost use Rattle.std.specs.String.{string_bytes};
-ghost use Rattle.std.specs.List.{flat_map};
 ghost use Rattle.ath_terms.specs.SortsIn.{IsSortedIn};
 ghost use Rattle.ath_terms.specs.Trees.{term_at, sent_at};
 ghost use Rattle.ath_env.specs.Stands.{IsIn, value_at};
-ghost use Rattle.ath_print.specs.Printers.{spaced, GoesOn};
+ghost use Rattle.ath_print.specs.declared.limits.TheConstants.{MOST_LINE_BYTES as MostBytes};
+ghost use Rattle.ath_print.specs.Printers.{word, in_turn, spaced, after, line_from, GoesOn, Tells};
 ghost use Rattle.ath_print.specs.Prefix.{sent_printed, term_printed};
-ghost use Rattle.ath_print.specs.Lines.{term_text, printed, listed, shown_text, argument_printed, arguments_text, refusal_text, place_text, text_of_event, line_of};
-ghost use Rattle.ath_print.specs.Stands.{argument_of, IsArgumentIn, refusal_of, IsFaultIn, event_of, IsEventIn};
+ghost use Rattle.ath_print.specs.Lines.{term_text, printed, listed, shown_text, kind_text, argument_printed, refusal_text, place_text, text_of_event, line_of, bytes_of_line};
+ghost use Rattle.ath_print.specs.Stands.{argument_of, IsArgumentIn, refusal_of, IsFaultIn, event_of, IsEventIn, file_of};
 
-use crate::draft::{Draft, put, put_number};
+use crate::draft::{Draft, Output, put, put_both, put_number, put_quoted};
 use crate::event::Event;
 use crate::fault::{Fault, FaultArg};
-use crate::pieces::{push, push_both, push_number, push_quoted};
+use crate::limits::MOST_LINE_BYTES;
 use crate::sents::put_sent;
 use crate::sorts::put_sort;
 use crate::terms::put_term;
@@ -50,17 +51,18 @@ fn put_told(
     names: &Names,
     sig: &Signature,
     store: &Store,
-    word: &str,
+    head: &str,
     p: SentId,
     draft: &mut Draft,
 ) -> Result<(), AllocError>
     requires inside { p.0 < length store.now.sents }
     requires sorted { IsSortedIn sig.now store.now }
     requires fresh { draft.old.seen.items ≡ [] }
-    ensures { OnOk result (draft.new.text.items ≡ draft.old.text.items ++ (word.now ++ printed names.now sig.now (sent_at store.now.sents p.0))) }
+    ensures { OnOk result (Tells (head.now ++ printed names.now sig.now (sent_at store.now.sents p.0)) draft.old draft.new) }
 {
-    put(draft, word)?;
-    put_closed(alloc, names, sig, store, p, draft)
+    put(draft, head)?;
+    put_closed(alloc, names, sig, store, p, draft)?;
+    Ok(())
 }
 
 fn put_shown_term(
@@ -74,23 +76,41 @@ fn put_shown_term(
     requires inside { t.0 < length store.now.terms }
     requires sorted { IsSortedIn sig.now store.now }
     requires fresh { draft.old.seen.items ≡ [] }
-    ensures { OnOk result (draft.new.text.items ≡ draft.old.text.items ++ (codes "Term: " ++ term_text names.now sig.now (term_at store.now.terms t.0))) }
+    ensures { OnOk result (Tells (codes "Term: " ++ term_text names.now sig.now (term_at store.now.terms t.0)) draft.old draft.new) }
 {
     put(draft, "Term: ")?;
-    put_term(alloc, names, sig, store, t, &[], draft)
+    put_term(alloc, names, sig, store, t, &[], draft)?;
+    Ok(())
 }
 
-fn push_listed(names: &Names, numbers: &[Sym], out: &mut Vec<u8>) -> Result<(), AllocError>
-    ensures { OnOk result (out.new.items ≡ out.old.items ++ listed names.now numbers.now) }
+/// Two words, where the line has shown no sort variables.
+fn put_words(draft: &mut Draft, first: &str, then: &str) -> Result<(), AllocError>
+    requires fresh { draft.old.seen.items ≡ [] }
+    ensures { OnOk result (Tells (first.now ++ then.now) draft.old draft.new) }
+{
+    put_both(draft, first, then)?;
+    Ok(())
+}
+
+fn put_listed(names: &Names, numbers: &[Sym], draft: &mut Draft) -> Result<(), AllocError>
+    ensures { OnOk result (GoesOn (word (listed names.now numbers.now)) draft.old draft.new) }
 {
     let Some((first, others)) = numbers.split_first() else {
         return Ok(());
     };
-    push(out, text_of(names, *first))?;
+    put(draft, text_of(names, *first))?;
     for n in others {
-        push(out, ", ")?;
-        push(out, text_of(names, *n))?;
+        put_both(draft, ", ", text_of(names, *n))?;
     }
+    Ok(())
+}
+
+fn put_symbols(names: &Names, numbers: &[Sym], draft: &mut Draft) -> Result<(), AllocError>
+    requires fresh { draft.old.seen.items ≡ [] }
+    ensures { OnOk result (Tells (codes "Symbols: " ++ listed names.now numbers.now) draft.old draft.new) }
+{
+    put(draft, "Symbols: ")?;
+    put_listed(names, numbers, draft)?;
     Ok(())
 }
 
@@ -106,16 +126,16 @@ fn put_shown(
     requires inside { IsIn store.now value }
     requires sorted { IsSortedIn sig.now store.now }
     requires fresh { draft.old.seen.items ≡ [] }
-    ensures { OnOk result (draft.new.text.items ≡ draft.old.text.items ++ shown_text names.now sig.now (value_at store.now value)) }
+    ensures { OnOk result (Tells (shown_text names.now sig.now (value_at store.now value)) draft.old draft.new) }
 {
     match value {
         Value::Term(t) => put_shown_term(alloc, names, sig, store, t, draft),
         Value::Sent(p) => put_told(alloc, names, sig, store, "Sentence: ", p, draft),
-        Value::Symbol(f) => push_both(&mut draft.text, "Symbol: ", text_of(names, f)),
-        Value::Conn(conn) => push_both(&mut draft.text, "Symbol: ", connective(conn)),
-        Value::Quant(quant) => push_both(&mut draft.text, "Symbol: ", quantifier(quant)),
-        Value::Back => push(&mut draft.text, "Symbol: <=="),
-        Value::PrimMethod(number) => push_both(&mut draft.text, "Method: ", method(number)),
+        Value::Symbol(f) => put_words(draft, "Symbol: ", text_of(names, f)),
+        Value::Conn(conn) => put_words(draft, "Symbol: ", connective(conn)),
+        Value::Quant(quant) => put_words(draft, "Symbol: ", quantifier(quant)),
+        Value::Back => put_words(draft, "Symbol: ", "<=="),
+        Value::PrimMethod(number) => put_words(draft, "Method: ", method(number)),
     }
 }
 
@@ -173,21 +193,41 @@ fn put_fault(
 ) -> Result<(), AllocError>
     requires inside { IsFaultIn store.now fault.now }
     requires sorted { IsSortedIn sig.now store.now }
-    requires fresh { draft.old.seen.items ≡ [] }
-    ensures { OnOk result (draft.new.text.items ≡ draft.old.text.items ++ refusal_text names.now sig.now (refusal_of store.now fault.now)) }
+    ensures { OnOk result (GoesOn (in_turn (word (kind_text fault.now.kind) ∷ spaced (map (argument_printed names.now sig.now) (map (argument_of store.now) fault.now.args)) ∷ [])) draft.old draft.new) }
 {
     put(draft, kind(fault.kind))?;
-    put_arguments(alloc, names, sig, store, fault, draft)
+    put_arguments(alloc, names, sig, store, fault, draft)?;
+    Ok(())
 }
 
-fn push_place(alloc: Global, files: &[String], at: Pos, out: &mut Vec<u8>) -> Result<(), AllocError>
-    ensures { OnOk result (out.new.items ≡ out.old.items ++ place_text (map string_bytes files.now) at) }
+/// The name of a file in quotes, where names of files are written.
+fn put_file(
+    alloc: Global,
+    files: Option<&[String]>,
+    number: usize,
+    draft: &mut Draft,
+) -> Result<(), AllocError>
+    ensures { OnOk result (GoesOn (word (file_of (option_map (λ fs. map string_bytes fs.now) files.entry) number)) draft.old draft.new) }
 {
-    push_quoted(out, file_name(files, at.file))?;
-    push(out, ":")?;
-    push_number(alloc, out, at.line)?;
-    push(out, ":")?;
-    push_number(alloc, out, at.col)
+    match files {
+        Some(files) => put_quoted(alloc, draft, file_name(files, number)),
+        None => Ok(()),
+    }
+}
+
+fn put_place(
+    alloc: Global,
+    files: Option<&[String]>,
+    at: Pos,
+    draft: &mut Draft,
+) -> Result<(), AllocError>
+    ensures { OnOk result (GoesOn (word (place_text (file_of (option_map (λ fs. map string_bytes fs.now) files.entry)) at)) draft.old draft.new) }
+{
+    put_file(alloc, files, at.file, draft)?;
+    put(draft, ":")?;
+    put_number(alloc, draft, at.line)?;
+    put(draft, ":")?;
+    put_number(alloc, draft, at.col)
 }
 
 fn put_error(
@@ -195,7 +235,7 @@ fn put_error(
     at: Pos,
     fault: &Fault,
     names: &Names,
-    files: &[String],
+    files: Option<&[String]>,
     sig: &Signature,
     store: &Store,
     draft: &mut Draft,
@@ -203,32 +243,35 @@ fn put_error(
     requires inside { IsFaultIn store.now fault.now }
     requires sorted { IsSortedIn sig.now store.now }
     requires fresh { draft.old.seen.items ≡ [] }
-    ensures { OnOk result (draft.new.text.items ≡ draft.old.text.items ++ (codes "Error: " ++ place_text (map string_bytes files.now) at ++ codes ": " ++ refusal_text names.now sig.now (refusal_of store.now fault.now))) }
+    ensures { OnOk result (Tells (codes "Error: " ++ place_text (file_of (option_map (λ fs. map string_bytes fs.now) files.entry)) at ++ codes ": " ++ refusal_text names.now sig.now (refusal_of store.now fault.now)) draft.old draft.new) }
 {
-    push(&mut draft.text, "Error: ")?;
-    push_place(alloc, files, at, &mut draft.text)?;
-    push(&mut draft.text, ": ")?;
-    put_fault(alloc, names, sig, store, fault, draft)
+    put(draft, "Error: ")?;
+    put_place(alloc, files, at, draft)?;
+    put(draft, ": ")?;
+    put_fault(alloc, names, sig, store, fault, draft)?;
+    Ok(())
 }
 
-fn push_exhausted(
+fn put_exhausted(
     alloc: Global,
-    files: &[String],
+    files: Option<&[String]>,
     at: Pos,
-    out: &mut Vec<u8>,
+    draft: &mut Draft,
 ) -> Result<(), AllocError>
-    ensures { OnOk result (out.new.items ≡ out.old.items ++ (codes "Fuel: " ++ place_text (map string_bytes files.now) at ++ codes ": out of fuel")) }
+    requires fresh { draft.old.seen.items ≡ [] }
+    ensures { OnOk result (Tells (codes "Fuel: " ++ place_text (file_of (option_map (λ fs. map string_bytes fs.now) files.entry)) at ++ codes ": out of fuel") draft.old draft.new) }
 {
-    push(out, "Fuel: ")?;
-    push_place(alloc, files, at, out)?;
-    push(out, ": out of fuel")
+    put(draft, "Fuel: ")?;
+    put_place(alloc, files, at, draft)?;
+    put(draft, ": out of fuel")?;
+    Ok(())
 }
 
 fn put_event(
     alloc: Global,
     event: &Event,
     names: &Names,
-    files: &[String],
+    files: Option<&[String]>,
     sig: &Signature,
     store: &Store,
     draft: &mut Draft,
@@ -236,20 +279,40 @@ fn put_event(
     requires inside { IsEventIn store.now event.now }
     requires sorted { IsSortedIn sig.now store.now }
     requires fresh { draft.old.seen.items ≡ [] }
-    ensures { OnOk result (draft.new.text.items ≡ draft.old.text.items ++ text_of_event names.now sig.now (map string_bytes files.now) (event_of store.now event.now)) }
+    ensures { OnOk result (Tells (text_of_event names.now sig.now (file_of (option_map (λ fs. map string_bytes fs.now) files.entry)) (event_of store.now event.now)) draft.old draft.new) }
 {
     match event {
-        Event::Domain(n) => push_both(&mut draft.text, "Domain: ", text_of(names, *n)),
-        Event::Symbols(numbers) => {
-            push(&mut draft.text, "Symbols: ")?;
-            push_listed(names, numbers.as_slice(), &mut draft.text)
-        }
+        Event::Domain(n) => put_words(draft, "Domain: ", text_of(names, *n)),
+        Event::Symbols(numbers) => put_symbols(names, numbers.as_slice(), draft),
         Event::Assertion(p) => put_told(alloc, names, sig, store, "Assertion: ", *p, draft),
         Event::Theorem(p) => put_told(alloc, names, sig, store, "Theorem: ", *p, draft),
         Event::Shown(value) => put_shown(alloc, names, sig, store, *value, draft),
         Event::Error(at, fault) => put_error(alloc, *at, fault, names, files, sig, store, draft),
-        Event::Fuel(at) => push_exhausted(alloc, files, *at, &mut draft.text),
+        Event::Fuel(at) => put_exhausted(alloc, files, *at, draft),
     }
+}
+
+/// A whole line, with its line end, and where its bytes went.
+fn written(
+    alloc: Global,
+    event: &Event,
+    names: &Names,
+    files: Option<&[String]>,
+    sig: &Signature,
+    store: &Store,
+    output: Output,
+) -> Result<Output, AllocError>
+    requires inside { IsEventIn store.now event.now }
+    requires sorted { IsSortedIn sig.now store.now }
+    ensures { IfOk result (λ new. line_from new [] ≡ after (word (text_of_event names.now sig.now (file_of (option_map (λ fs. map string_bytes fs.now) files.entry)) (event_of store.now event.now) ++ codes "\n")) (line_from output [])) }
+{
+    let mut draft = Draft {
+        output,
+        seen: Vec::new(alloc),
+    };
+    put_event(alloc, event, names, files, sig, store, &mut draft)?;
+    put(&mut draft, "\n")?;
+    Ok(draft.output)
 }
 
 /// The line of an event, with its line end.
@@ -265,11 +328,29 @@ pub fn line(
     requires sorted { IsSortedIn sig.now store.now }
     ensures { IfOk result (λ bytes. bytes.items ≡ line_of names.now sig.now (map string_bytes files.now) (event_of store.now event.now)) }
 {
-    let mut draft = Draft {
-        text: Vec::new(alloc),
-        seen: Vec::new(alloc),
-    };
-    put_event(alloc, event, names, files, sig, store, &mut draft)?;
-    push(&mut draft.text, "\n")?;
-    Ok(draft.text)
+    let output = Output::Kept(Vec::new(alloc));
+    match written(alloc, event, names, Some(files), sig, store, output)? {
+        Output::Kept(bytes) => Ok(bytes),
+        _counted => unreachable!(),
+    }
+}
+
+/// The number of bytes of that line without the name of a file and its quotes, or one more than the limit where there are
+/// more. The line isn't made, and no more of it is gone through than the limit has room for.
+pub fn line_bytes(
+    alloc: Global,
+    event: &Event,
+    names: &Names,
+    sig: &Signature,
+    store: &Store,
+) -> Result<u64, AllocError>
+    requires inside { IsEventIn store.now event.now }
+    requires sorted { IsSortedIn sig.now store.now }
+    ensures { IfOk result (λ n. n ≡ min (bytes_of_line names.now sig.now (event_of store.now event.now)) (MostBytes + 1)) }
+{
+    let output = Output::Room(MOST_LINE_BYTES);
+    match written(alloc, event, names, None, sig, store, output)? {
+        Output::Room(room) => Ok(MOST_LINE_BYTES - room),
+        _too_long => Ok(MOST_LINE_BYTES + 1),
+    }
 }

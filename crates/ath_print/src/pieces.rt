@@ -1,29 +1,14 @@
-// Pieces of lines: texts, numbers, and texts in quotes.
+// Texts, and texts in quotes, at the end of others.
 
 ghost use Rattle.std.specs.Prelude.{◌≡◌, ◌<◌, ◌++◌, OnOk};
-ghost use Rattle.std.specs.Fmt.{decimal};
 ghost use Rattle.ath_print.specs.Lines.{hex_digit, escaped, quoted};
 
-use std::alloc::{AllocError, Global};
+use std::alloc::AllocError;
 
 pub fn push(out: &mut Vec<u8>, piece: &str) -> Result<(), AllocError>
     ensures { OnOk result (out.new.items ≡ out.old.items ++ piece.now) }
 {
     out.extend_from_slice(piece.as_bytes())
-}
-
-pub fn push_both(out: &mut Vec<u8>, first: &str, then: &str) -> Result<(), AllocError>
-    ensures { OnOk result (out.new.items ≡ out.old.items ++ (first.now ++ then.now)) }
-{
-    push(out, first)?;
-    push(out, then)
-}
-
-pub fn push_number(alloc: Global, out: &mut Vec<u8>, n: u64) -> Result<(), AllocError>
-    ensures { OnOk result (out.new.items ≡ out.old.items ++ decimal n) }
-{
-    let digits = n.to_string(alloc)?;
-    out.extend_from_slice(digits.as_bytes())
 }
 
 fn hex(d: u8) -> u8

@@ -7,7 +7,7 @@ ghost use Rattle.ath_terms.specs.Trees.{term_at, sent_at};
 ghost use Rattle.ath_print.specs.Printers.{word, in_turn, GoesOn};
 ghost use Rattle.ath_print.specs.Prefix.{quant_text, with_sort, sent_printed};
 
-use crate::draft::{Draft, put};
+use crate::draft::{Draft, is_full, put};
 use crate::terms::{put_term, put_with_sort};
 use crate::words::{connective, quantifier};
 use ath_names::Names;
@@ -55,7 +55,8 @@ fn put_binder(
     put(draft, quantifier(quant))?;
     put(draft, " ")?;
     put_with_sort(alloc, names, v, draft)?;
-    put(draft, " ")
+    put(draft, " ")?;
+    Ok(())
 }
 
 /// A sentence within these binders, which are the same again after it.
@@ -73,10 +74,14 @@ pub fn put_sent<'a>(
     ensures binders { OnOk result (map (λ b. b.now) binders.new.items ≡ map (λ b. b.now) binders.old.items) }
     ensures text { OnOk result (GoesOn (sent_printed names.now sig.now (map (λ b. b.now) binders.old.items) (sent_at store.now.sents p.0)) draft.old draft.new) }
 {
+    if is_full(draft) {
+        return Ok(());
+    }
     match store.sent(p) {
         SentNode::Atom(t) => put_term(alloc, names, sig, store, *t, binders.as_slice(), draft),
         SentNode::Eq(s, t) => {
-            put_equation(alloc, names, sig, store, *s, *t, binders.as_slice(), draft)
+            put_equation(alloc, names, sig, store, *s, *t, binders.as_slice(), draft)?;
+            Ok(())
         }
         SentNode::Conn(conn, parts) => {
             put(draft, "(")?;

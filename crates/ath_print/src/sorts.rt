@@ -4,7 +4,7 @@ ghost use Rattle.std.specs.Prelude.{◌≡◌, OnOk};
 ghost use Rattle.ath_print.specs.Printers.{GoesOn};
 ghost use Rattle.ath_print.specs.Prefix.{sort_printed};
 
-use crate::draft::{Draft, put, put_sort_variable};
+use crate::draft::{Draft, is_full, put, put_sort_variable};
 use ath_env::text_of;
 use ath_names::Names;
 use ath_sorts::Sort;
@@ -18,6 +18,9 @@ pub fn put_sort(
 ) -> Result<(), AllocError>
     ensures { OnOk result (GoesOn (sort_printed names.now sort.now) draft.old draft.new) }
 {
+    if is_full(draft) {
+        return Ok(());
+    }
     match sort {
         Sort::Var(v) => put_sort_variable(alloc, *v, draft),
         Sort::Con(name, args) => {

@@ -9,7 +9,7 @@ ghost use Rattle.ath_trees.specs.Variables.{same_var};
 ghost use Rattle.ath_print.specs.Printers.{word, item, GoesOn};
 ghost use Rattle.ath_print.specs.Prefix.{var_text, with_sort, occurrence, is_unsaid, leaves_unsaid, is_ascribed, term_printed, plain_printed};
 
-use crate::draft::{Draft, put, put_number};
+use crate::draft::{Draft, is_full, put, put_number};
 use crate::sorts::put_sort;
 use ath_env::text_of;
 use ath_names::Names;
@@ -54,7 +54,8 @@ pub fn put_with_sort(
 {
     put_var(alloc, names, v, draft)?;
     put(draft, ":")?;
-    put_sort(alloc, names, &v.sort, draft)
+    put_sort(alloc, names, &v.sort, draft)?;
+    Ok(())
 }
 
 fn put_occurrence(
@@ -156,6 +157,9 @@ pub fn put_term(
     requires sorted { IsSortedIn sig.now store.now }
     ensures { OnOk result (GoesOn (term_printed names.now sig.now (map (λ b. b.now) binders.now) (term_at store.now.terms t.0)) draft.old draft.new) }
 {
+    if is_full(draft) {
+        return Ok(());
+    }
     if !is_ascribed(sig, store, t) {
         return put_plain(alloc, names, sig, store, t, binders, draft);
     }

@@ -65,6 +65,7 @@ pub fn kind(kind: FaultKind) -> &'static str
         FaultKind::Unbound => "Unbound",
         FaultKind::FileTooLong => "FileTooLong",
         FaultKind::TooManyLoads => "TooManyLoads",
+        FaultKind::LineTooLong => "LineTooLong",
         FaultKind::SortClash => "SortClash",
         FaultKind::ArgCount => "ArgCount",
         FaultKind::NotBoolean => "NotBoolean",

@@ -5,7 +5,8 @@ ghost use Rattle.ath_print.specs.Stands.{IsEventIn};
 
 use ath_env::Value;
 use ath_names::Names;
-use ath_print::{Event, Fault, FaultArg, FaultKind, line};
+use ath_print::limits::MOST_LINE_BYTES;
+use ath_print::{Event, Fault, FaultArg, FaultKind, line, line_bytes};
 use ath_sorts::sorts::con;
 use ath_sorts::{SVar, Signature, Sort, Sym};
 use ath_syntax::Pos;
@@ -195,4 +196,49 @@ fn values_without_nodes(rt: HostRuntime) -> Result<(), Fail> {
     expect_plain(&rt, &Event::Shown(Value::Back), "Symbol: <==\n")?;
     expect_plain(&rt, &Event::Shown(Value::PrimMethod(0)), "Method: claim\n")?;
     expect_plain(&rt, &Event::Shown(Value::PrimMethod(1)), "Method: mp\n")
+}
+
+/// The bytes of the line of 83,055 symbols with names of 200 bytes and of one with a name of so many.
+fn bytes_of_symbols(rt: &(impl Abort + AllocGlobal), last: u64) -> Result<u64, Fail> {
+    let alloc = rt.alloc();
+    let mut names = names(alloc)?;
+    let long = names.intern(alloc, repeated(alloc, 200)?.as_str())?;
+    let short = names.intern(alloc, repeated(alloc, last)?.as_str())?;
+    let mut symbols = Vec::new(alloc);
+    for _ in 0..83_055 {
+        symbols.push(Sym(long))?;
+    }
+    symbols.push(Sym(short))?;
+    let event = Event::Symbols(Items::from_slice(alloc, symbols.as_slice())?);
+    let sig = Signature::new(alloc)?;
+    let store = Store::new(alloc);
+    Ok(line_bytes(alloc, &event, &names, &sig, &store)?)
+}
+
+fn repeated(alloc: Global, times: u64) -> Result<String, AllocError> {
+    let mut name = String::new(alloc);
+    for _ in 0..times {
+        name.push_str("a")?;
+    }
+    Ok(name)
+}
+
+#[test]
+fn longest_lines(rt: HostRuntime) -> Result<(), Fail> {
+    assert_eq!(rt; bytes_of_symbols(&rt, 95)?, MOST_LINE_BYTES - 1);
+    assert_eq!(rt; bytes_of_symbols(&rt, 96)?, MOST_LINE_BYTES);
+    assert_eq!(rt; bytes_of_symbols(&rt, 97)?, MOST_LINE_BYTES + 1);
+    assert_eq!(rt; bytes_of_symbols(&rt, 200)?, MOST_LINE_BYTES + 1);
+    Ok(())
+}
+
+#[test]
+fn bytes_without_names_of_files(rt: HostRuntime) -> Result<(), Fail> {
+    let alloc = rt.alloc();
+    let names = names(alloc)?;
+    let sig = Signature::new(alloc)?;
+    let store = Store::new(alloc);
+    let bytes = line_bytes(alloc, &Event::Fuel(AT), &names, &sig, &store)?;
+    assert_eq!(rt; bytes, 25);
+    Ok(())
 }

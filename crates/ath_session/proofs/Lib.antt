@@ -1,6 +1,7 @@
 pub mod AdvanceLaws
 pub mod DeskLaws
 pub mod Existence
+pub mod LimitLaws
 pub mod MoveLaws
 pub mod PlainLines
 pub mod PlainNames

@@ -26,11 +26,11 @@ use Rattle.ath_trees.specs.Variables.{same_var}
 use Rattle.ath_env.specs.Values.{Value, a_term, a_sentence, a_symbol, a_connective, a_quantifier, a_back, a_method}
 use Rattle.ath_env.specs.LookUp.{text_of}
 use Rattle.ath_print.specs.declared.fault.FaultKind.{FaultKind}
-use Rattle.ath_print.specs.declared.fault.FaultKind.TheVariants.{BadUtf8, BadChar, OpenString, NameTooLong, Unexpected, Unclosed, KindMix, TooDeep, NotBuilt, Redeclared, UnknownSort, Arity, LooseParam, TooWide, SortTooLarge, Unbound, FileTooLong, TooManyLoads, SortClash, ArgCount, NotBoolean, TooLarge, TooNested, WrongKind, WrongShape, NotInBase, NotApplicable, NotMethod, NotSentence}
+use Rattle.ath_print.specs.declared.fault.FaultKind.TheVariants.{BadUtf8, BadChar, OpenString, NameTooLong, Unexpected, Unclosed, KindMix, TooDeep, NotBuilt, Redeclared, UnknownSort, Arity, LooseParam, TooWide, SortTooLarge, Unbound, FileTooLong, TooManyLoads, LineTooLong, SortClash, ArgCount, NotBoolean, TooLarge, TooNested, WrongKind, WrongShape, NotInBase, NotApplicable, NotMethod, NotSentence}
 use Rattle.ath_print.specs.Events.{Argument, sentence_named, term_named, sort_named, variable_named, name_named, number_named, Refusal, Event, domain_added, symbols_added, asserted, proved, shown, refused, exhausted, is_theorem}
 use Rattle.ath_print.specs.Printers.{Printer, word, in_turn, spaced, item}
 use Rattle.ath_print.specs.Prefix.{conn_text, quant_text, numbered, svar_printed, sort_step, sort_printed, index_text, var_text, with_sort, occurrence, leaves_unsaid, ascribed, term_printed, terms_printed, sent_printed}
-use Rattle.ath_print.specs.Lines.{listed_after, listed, hex_digit, escaped, quoted, method_text, kind_text, argument_printed, refusal_text, shown_text, place_text, text_of_event, line_of}
+use Rattle.ath_print.specs.Lines.{listed_after, listed, hex_digit, escaped, quoted, quoted_file, method_text, kind_text, argument_printed, refusal_text, shown_text, place_text, text_of_event, line_of}
 use Rattle.ath_session.specs.Believed.{has_line_end, IsLine}
 
 -- no byte is LF
@@ -100,7 +100,7 @@ pub decimal-plain : (n : ℕ) → Plain (decimal n)
 unfolding digits
 decimal-plain n = digits-plain 64 n [] (plain [] refl)
 
-place-plain : (files : List (List ℕ)) (at : Pos) → Plain (place_text files at)
+place-plain : (files : List (List ℕ)) (at : Pos) → Plain (place_text (quoted_file files) at)
 place-plain files at = plain-append (plain-append (plain-append (plain-append (quoted-plain (slice_index_or files at.file [])) (plain (codes ":") refl)) (decimal-plain at.line)) (plain (codes ":") refl)) (decimal-plain at.col)
 
 -- ---- names and words
@@ -142,6 +142,7 @@ kind-plain SortTooLarge = plain _ refl
 kind-plain Unbound = plain _ refl
 kind-plain FileTooLong = plain _ refl
 kind-plain TooManyLoads = plain _ refl
+kind-plain LineTooLong = plain _ refl
 kind-plain SortClash = plain _ refl
 kind-plain ArgCount = plain _ refl
 kind-plain NotBoolean = plain _ refl
@@ -295,7 +296,7 @@ module _ (names : List (List ℕ)) (sig : Signature) (files : List (List ℕ)) (
   shown-plain a_back = plain (codes "Symbol: <==") refl
   shown-plain (a_method n) = plain-append (plain (codes "Method: ") refl) (method-plain n)
 
-  event-plain : (e : Event) → Plain (text_of_event names sig files e)
+  event-plain : (e : Event) → Plain (text_of_event names sig (quoted_file files) e)
   event-plain (domain_added n) = plain-append (plain (codes "Domain: ") refl) (name-plain names all n)
   event-plain (symbols_added ns) = plain-append (plain (codes "Symbols: ") refl) (listed-plain names all ns)
   event-plain (asserted p) = plain-append (plain (codes "Assertion: ") refl) (sent-plain names all sig [] p [])
@@ -338,7 +339,7 @@ module _ (names : List (List ℕ)) (sig : Signature) (files : List (List ℕ)) w
 
 pub line_whole : (names : List (List ℕ)) (sig : Signature) (files : List (List ℕ)) → ArePlain names → (e : Event) → IsLine (record { event = e; names = names; signature = sig; files = files })
 line_whole names sig files all e = record {
-  text = text_of_event names sig files e;
+  text = text_of_event names sig (quoted_file files) e;
   ends = refl;
   one_end = (event-plain names sig files all e).free;
   theorem = line-headed names sig files e;

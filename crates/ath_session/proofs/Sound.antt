@@ -46,6 +46,7 @@ use Rattle.ath_session.specs.Directives.{Continuation, goes_on, loads, ends, Eff
 use Rattle.ath_session.specs.Run.{Item, asks, tells, Configuration, Halt, Move, goes, halts, reading_of, opened, fetched, asking, beginning_of, next_file, tell_all, following, place_of, turned, IsTurn, Runs, at_start, one_more, said}
 use Rattle.ath_reader.specs.declared.limits.TheConstants.{MOST_BYTES}
 use Rattle.ath_session.specs.declared.limits.TheConstants.{MOST_ASKED, MOST_LOADS}
+use Rattle.ath_session.proofs.LimitLaws.{limited_either}
 use Rattle.ath_session.specs.Report.{Report, said_in, start, IsLogOf, IsReportOf}
 use Rattle.ath_session.specs.Sound.{IsSoundFor}
 use Rattle.ath_session.specs.Theorems.{asserted_after, IsJustified, AreJustified}
@@ -128,7 +129,7 @@ unless-kept st at s (Some inner) = refused-kept st inner _
 unless-kept st at s None = done-kept st at s
 
 effect-kept : (st : State) (d : DirectiveTree) → Kept st (effect st d)
-effect-kept st (directive_at at s) = unless-kept st at s (unbuilt_in st.names at s)
+effect-kept st (directive_at at s) = limited_either (Kept st) st at (unless_unbuilt st at s (unbuilt_in st.names at s)) (refusing-kept st _ at _) (unless-kept st at s (unbuilt_in st.names at s))
 
 pub refused_leaves_state : RefusedLeavesState
 refused_leaves_state = λ st d. (effect-kept st d).refusal
@@ -183,7 +184,9 @@ module _ (never : NeverRises) where
   unless-moved st at s None = done-moved st at s
 
   effect-moved : (st : State) (d : DirectiveTree) → Moved st (effect st d).state
-  effect-moved st (directive_at at s) = unless-moved st at s (unbuilt_in st.names at s)
+  effect-moved st (directive_at at s) =
+      let h = unless-moved st at s (unbuilt_in st.names at s) in
+      limited_either (λ e. Moved st e.state) st at (unless_unbuilt st at s (unbuilt_in st.names at s)) h h
 
   pub fuel_never_rises : FuelNeverRises
   fuel_never_rises = λ st d. effect-moved st d
@@ -294,7 +297,7 @@ module _ (follow : ConclusionsFollow) (values : ValuesAreSorted) where
   unless-does ps st sound at s differ None = done-does ps st sound at s differ
 
   pub effect-does : (ps : List Sent) (st : State) → IsSoundFor ps st → (d : DirectiveTree) → DirectiveDiffers d → DoesAll ps (effect st d)
-  effect-does ps st sound (directive_at at s) differ = unless-does ps st sound at s differ (unbuilt_in st.names at s)
+  effect-does ps st sound (directive_at at s) differ = limited_either (DoesAll ps) st at (unless_unbuilt st at s (unbuilt_in st.names at s)) (tt, left-sound ps st _ sound) (unless-does ps st sound at s differ (unbuilt_in st.names at s))
 
 -- ---- one move
 abbrev Goes : List Sent → List Item → State → Type 0

@@ -33,6 +33,7 @@ use Rattle.ath_session.specs.declared.session.Reply.{Reply}
 use Rattle.ath_session.specs.Session.{state_of, IsReply, ParamsDiffer}
 use Rattle.ath_session.specs.Sound.{asserted_in, IsSoundFor, IsSound, AreFollowing}
 use Rattle.ath_session.specs.Theorems.{asserted_after, IsJustified}
+use Rattle.ath_session.proofs.LimitLaws.{limited_either}
 use Rattle.ath_session.proofs.Sound.{DoesAll, effect-does}
 
 abbrev IsSoundStep : State → Effect → Type 0
@@ -80,7 +81,7 @@ unless st at s (Some inner) d = ((d.0, tt), d.1)
 unless st at s None d = statement st at s d
 
 directive : (st : State) (d : DirectiveTree) → Steps st (effect st d)
-directive st (directive_at at s) does = unless st at s (unbuilt_in st.names at s) does
+directive st (directive_at at s) = limited_either (Steps st) st at (unless_unbuilt st at s (unbuilt_in st.names at s)) (λ d. ((d.0, tt), d.1)) (unless st at s (unbuilt_in st.names at s))
 
 -- ---- parameters differ in the tree as they do in the node
 statement_differs : {s : syntax.Nodes} {w : What} {x : Statement} → IsStatement s w x → ParamsDiffer w → StatementDiffers x

@@ -28,6 +28,7 @@ use Rattle.ath_session.specs.Unbuilt.{unbuilt_in}
 use Rattle.ath_session.specs.Directives.{Continuation, goes_on, loads, ends, Effect, declaring, to_assert, asserting, asserting_sentence, asserting_built, showing, done, unless_unbuilt, effect}
 use Rattle.ath_reader.specs.declared.limits.TheConstants.{MOST_BYTES}
 use Rattle.ath_session.specs.declared.limits.TheConstants.{MOST_ASKED, MOST_LOADS}
+use Rattle.ath_session.proofs.LimitLaws.{limited_either}
 use Rattle.ath_session.specs.Run.{Item, asks, tells, Configuration, Halt, Move, goes, halts, reading_of, opened, fetched, asking, beginning_of, next_file, tell_all, following, place_of, turned, IsTurn, Runs, at_start, one_more, said}
 use Rattle.ath_session.specs.Report.{said_in, start, IsLogOf}
 use Rattle.ath_session.specs.Believed.{IsLine, AreNamed}
@@ -106,7 +107,7 @@ unless_names st at s (Some inner) = refl
 unless_names st at s None = done_names st at s
 
 effect_names : (st : State) (d : DirectiveTree) → HasNames st.names (effect st d)
-effect_names st (directive_at at s) = unless_names st at s (unbuilt_in st.names at s)
+effect_names st (directive_at at s) = limited_either (HasNames st.names) st at (unless_unbuilt st at s (unbuilt_in st.names at s)) refl (unless_names st at s (unbuilt_in st.names at s))
 
 -- ---- one move
 abbrev GoesWhole : List (List ℕ) → Move → Type 0

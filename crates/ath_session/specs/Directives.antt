@@ -1,6 +1,6 @@
 -- The effect of a directive: the state after it, and its events. One that is refused has one event, and keeps all of the
 -- state but the fuel and the counters.
-use Rattle.std.specs.Prelude.{ℕ, Bool, true, false, List, [], ◌∷◌, Option, Some, None, Result, Ok, Err}
+use Rattle.std.specs.Prelude.{ℕ, nat_lt, Bool, true, false, List, [], ◌∷◌, map, sum, Option, Some, None, Result, Ok, Err, if◌then◌else◌}
 use Rattle.ath_sorts.specs.declared.signature.Flaw.{Flaw}
 use Rattle.ath_sorts.specs.declared.signature.Flaw.TheVariants as flaw
 use Rattle.ath_sorts.specs.Signature.{Signature}
@@ -12,8 +12,10 @@ use Rattle.ath_trees.specs.Tree.{Sent}
 use Rattle.ath_construction.specs.Construction.{Built, builds, refuses}
 use Rattle.ath_construction.specs.Closure.{universal_closure}
 use Rattle.ath_env.specs.Values.{sentence_of}
-use Rattle.ath_print.specs.declared.fault.FaultKind.TheVariants.{NotBuilt, NotSentence, Redeclared, TooWide, UnknownSort, Arity, SortTooLarge, LooseParam}
+use Rattle.ath_print.specs.declared.fault.FaultKind.TheVariants.{NotBuilt, NotSentence, Redeclared, TooWide, UnknownSort, Arity, SortTooLarge, LooseParam, LineTooLong}
+use Rattle.ath_print.specs.declared.limits.TheConstants.{MOST_LINE_BYTES}
 use Rattle.ath_print.specs.Events.{name_named, variable_named, Refusal, Event, domain_added, symbols_added, asserted, proved, shown, refused, exhausted}
+use Rattle.ath_print.specs.Lines.{bytes_of_line}
 use Rattle.ath_eval.specs.Building.{told}
 use Rattle.ath_eval.specs.Outcomes.{left_of, Outcome, gives, concludes, fails, exhausts, refusal}
 use Rattle.ath_eval.specs.Evaluation.{outcome_of}
@@ -109,6 +111,14 @@ abbrev pub unless_unbuilt : State → Pos → Statement → Option Pos → Effec
 unless_unbuilt st at s (Some inner) = refusing st inner (refusal NotBuilt [])
 unless_unbuilt st at s None = done st at s
 
+-- the bytes of the lines of these events in a state, without names of files
+abbrev pub bytes_of_lines : State → List Event → ℕ
+bytes_of_lines st es = sum (map (bytes_of_line st.names st.signature) es)
+
+-- a directive of which the lines would be too long is refused at its place
+abbrev pub limited : State → Pos → Effect → Effect
+limited st at e = if nat_lt MOST_LINE_BYTES (bytes_of_lines e.state e.events) then refusing (with_left st (left e.state)) at (refusal LineTooLong []) else e
+
 -- what isn't built is told before anything is evaluated
 abbrev pub effect : State → DirectiveTree → Effect
-effect st (directive_at at s) = unless_unbuilt st at s (unbuilt_in st.names at s)
+effect st (directive_at at s) = limited st at (unless_unbuilt st at s (unbuilt_in st.names at s))

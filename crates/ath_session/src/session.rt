@@ -1,6 +1,6 @@
 // A session: the state of a run, and one directive after the other.
 
-ghost use Rattle.std.specs.Prelude.{◌≡◌, ◌≤◌, ◌<◌, false, [], ◌∷◌, ◌++◌, IfOk, IfSome, OnOk, Some, None, Option, length, map, take};
+ghost use Rattle.std.specs.Prelude.{◌≡◌, ◌≤◌, ◌<◌, nat_lt, false, [], ◌∷◌, ◌++◌, IfOk, IfSome, OnOk, Some, None, Option, length, map, take};
 ghost use Rattle.ath_names.specs.Names.{first_names};
 ghost use Rattle.ath_sorts.specs.Validity.{AreDistinct};
 ghost use Rattle.ath_sorts.specs.declared.signature.Flaw.{Flaw};
@@ -8,7 +8,7 @@ ghost use Rattle.ath_syntax.specs.Stands.{IsDirective, IsPhrase, IsStatement};
 ghost use Rattle.ath_syntax.specs.Tree.{DirectiveTree, Phrase, Statement};
 ghost use Rattle.ath_reader.specs.Answering.{Answers};
 ghost use Rattle.ath_declarations.specs.Declarations.{domain_declared, declared};
-ghost use Rattle.ath_syntax.specs.Places.{place};
+ghost use Rattle.ath_syntax.specs.Places.{place as place_of};
 ghost use Rattle.ath_eval.specs.Outcomes.{refusal};
 ghost use Rattle.ath_env.specs.Values.{sentence_of};
 ghost use Rattle.ath_env.specs.Stands.{IsIn, value_at};
@@ -17,20 +17,23 @@ ghost use Rattle.ath_sorts.specs.Signature.{Signature as Declared};
 ghost use Rattle.ath_terms.specs.SortsIn.{IsSortedIn};
 ghost use Rattle.ath_terms.specs.Trees.{Trees, Grows, sent_at};
 ghost use Rattle.ath_print.specs.Events.{domain_added, symbols_added};
-ghost use Rattle.ath_print.specs.Stands.{IsRefusal, IsFaultIn, event_of, refusal_of};
-ghost use Rattle.ath_session.specs.Directives.{outcome_in, effect, done, declaring, declaration_refusal, asserting, asserting_built, asserting_sentence, to_assert, showing, loading, refusing};
-ghost use Rattle.ath_session.specs.Session.{state_of, ParamsDiffer, IsReply, KeepsNumbers};
+ghost use Rattle.ath_print.specs.Lines.{bytes_of_line};
+ghost use Rattle.ath_print.specs.declared.limits.TheConstants.{MOST_LINE_BYTES as MostBytes};
+ghost use Rattle.ath_print.specs.Stands.{IsRefusal, IsFaultIn, IsEventIn, event_of, refusal_of};
+ghost use Rattle.ath_session.specs.Directives.{outcome_in, effect, limited, telling, done, declaring, declaration_refusal, asserting, asserting_built, asserting_sentence, to_assert, showing, loading, refusing};
+ghost use Rattle.ath_session.specs.Session.{state_of, next_of, ParamsDiffer, IsReply, KeepsNumbers};
 ghost use Rattle.ath_session.specs.Sound.{IsSound, AreFollowing};
 ghost use Rattle.ath_session.specs.State.{first_state, joining, with_names};
 
 use crate::unbuilt::unbuilt_in;
 use ath_base::{Base, Origin, ScopeId};
 use ath_construction::universal_closure;
-use ath_declarations::{DeclareError, declare, declare_domain};
+use ath_declarations::{DeclareError, check_symbols, declare, declare_domain};
 use ath_env::{Value, sentence};
 use ath_eval::{Outcome, World, build_fault, run};
 use ath_names::Names;
-use ath_print::{Event, Fault, FaultArg, FaultKind};
+use ath_print::limits::MOST_LINE_BYTES;
+use ath_print::{Event, Fault, FaultArg, FaultKind, line_bytes};
 use ath_reader::{OpTable, Reader, SyntaxError};
 use ath_sorts::{Flaw, Signature, Sym};
 use ath_syntax::{Directive, PhraseId, Phrases, Pos, SortText, What};
@@ -66,28 +69,13 @@ pub struct Session {
     ghost table: { take (length first_names) world.names ≡ first_names },
 }
 
-/// A reply of one event, after which the run goes on.
-fn telling(alloc: Global, event: Event) -> Result<Reply, AllocError>
-    ensures { IfOk result (λ r. (r.events.items ≡ event ∷ []) × (r.next ≡ Next.Go)) }
+/// A reply of one event.
+fn replying(alloc: Global, event: Event, next: Next) -> Result<Reply, AllocError>
+    ensures { IfOk result (λ r. (r.events.items ≡ event ∷ []) × (r.next ≡ next)) }
 {
     let mut events = Vec::new(alloc);
     events.push(event)?;
-    Ok(Reply {
-        events,
-        next: Next::Go,
-    })
-}
-
-/// The reply where no fuel is left for the phrase at this place.
-fn ending(alloc: Global, at: Pos) -> Result<Reply, AllocError>
-    ensures { IfOk result (λ r. (r.events.items ≡ Event.Fuel at ∷ []) × (r.next ≡ Next.Stop)) }
-{
-    let mut events = Vec::new(alloc);
-    events.push(Event::Fuel(at))?;
-    Ok(Reply {
-        events,
-        next: Next::Stop,
-    })
+    Ok(Reply { events, next })
 }
 
 /// Why a declaration is refused.
@@ -200,7 +188,8 @@ impl Session {
         let world = &self.world;
         let unbuilt = unbuilt_in(&world.names, &world.phrases, directive.pos, &directive.what);
         if let Some(at) = unbuilt {
-            let reply = self.refusal(alloc, at, Fault::plain(alloc, FaultKind::NotBuilt))?;
+            let fault = Fault::plain(alloc, FaultKind::NotBuilt);
+            let reply = self.refusal(alloc, directive.pos, at, fault)?;
             return Ok(reply);
         }
         self.run_built(alloc, directive)
@@ -212,21 +201,57 @@ impl Session {
         ensures kept { self.new ≡ self.old }
         ensures reply { IfOk result (λ r. IsReply self.new.world r (refusing (state_of self.old.world) at (refusal_of self.old.world.store fault))) }
     {
-        self.refusal(alloc, at, fault)
+        replying(alloc, Event::Error(at, fault), Next::Go)
     }
 
-    fn refusal(&self, alloc: Global, at: Pos, fault: Fault) -> Result<Reply, AllocError>
-        requires { IsFaultIn self.now.world.store fault }
-        ensures { IfOk result (λ r. IsReply self.now.world r (refusing (state_of self.now.world) at (refusal_of self.now.world.store fault))) }
+    /// Whether the line of an event is longer than those of a directive may be.
+    fn is_too_long(&self, alloc: Global, event: &Event) -> Result<bool, AllocError>
+        requires { IsEventIn self.now.world.store event.now }
+        ensures { IfOk result (λ long. long ≡ nat_lt MostBytes (bytes_of_line self.now.world.names self.now.world.sig (event_of self.now.world.store event.now))) }
     {
-        telling(alloc, Event::Error(at, fault))
+        let world = &self.world;
+        let bytes = line_bytes(alloc, event, &world.names, &world.sig, &world.store)?;
+        Ok(bytes > MOST_LINE_BYTES)
+    }
+
+    /// The reply to a directive at `place` of which the line would be too long.
+    fn too_long(&self, alloc: Global, place: Pos) -> Result<Reply, AllocError>
+        ensures { IfOk result (λ r. IsReply self.now.world r (refusing (state_of self.now.world) place (refusal FaultKind.LineTooLong []))) }
+    {
+        let fault = Fault::plain(alloc, FaultKind::LineTooLong);
+        replying(alloc, Event::Error(place, fault), Next::Go)
+    }
+
+    /// The reply of one event to a directive at `place`, unless its line would be too long.
+    fn reply(
+        &self,
+        alloc: Global,
+        place: Pos,
+        event: Event,
+        next: Next,
+    ) -> Result<Reply, AllocError>
+        requires { IsEventIn self.now.world.store event }
+        ensures { IfOk result (λ r. IsReply self.now.world r (limited (state_of self.now.world) place (record { state = state_of self.now.world; events = event_of self.now.world.store event ∷ []; next = next_of next }))) }
+    {
+        if self.is_too_long(alloc, &event)? {
+            return self.too_long(alloc, place);
+        }
+        replying(alloc, event, next)
+    }
+
+    /// The reply of an error at `at` to a directive at `place`.
+    fn refusal(&self, alloc: Global, place: Pos, at: Pos, fault: Fault) -> Result<Reply, AllocError>
+        requires { IsFaultIn self.now.world.store fault }
+        ensures { IfOk result (λ r. IsReply self.now.world r (limited (state_of self.now.world) place (refusing (state_of self.now.world) at (refusal_of self.now.world.store fault)))) }
+    {
+        self.reply(alloc, place, Event::Error(at, fault), Next::Go)
     }
 
     fn run_built(&mut self, alloc: Global, directive: &Directive) -> Result<Reply, AllocError>
         requires statement { (s : Statement) × IsStatement self.old.world.phrases directive.now.what s }
         requires differ { ParamsDiffer directive.now.what }
         ensures numbers { KeepsNumbers self.old.world self.new.world }
-        ensures reply { IfOk result (λ r. (s : Statement) → IsStatement self.old.world.phrases directive.now.what s → IsReply self.new.world r (done (state_of self.old.world) directive.now.pos s)) }
+        ensures reply { IfOk result (λ r. (s : Statement) → IsStatement self.old.world.phrases directive.now.what s → IsReply self.new.world r (limited (state_of self.old.world) directive.now.pos (done (state_of self.old.world) directive.now.pos s))) }
     {
         match &directive.what {
             What::Domain(name, vars) => {
@@ -243,11 +268,14 @@ impl Session {
                     result_sort,
                 )
             }
-            What::Assert(_, closed, phrase) => self.assert(alloc, *closed, *phrase),
+            What::Assert(_, closed, phrase) => {
+                self.assert(alloc, directive.pos, *closed, *phrase)
+            }
             What::Load(name) => self.load(alloc, name.as_str()),
-            What::Phrase(phrase) => self.show(alloc, *phrase),
+            What::Phrase(phrase) => self.show(alloc, directive.pos, *phrase),
             _other => self.refusal(
                 alloc,
+                directive.pos,
                 directive.pos,
                 Fault::plain(alloc, FaultKind::NotBuilt),
             ),
@@ -262,10 +290,17 @@ impl Session {
         vars: &[Sym],
     ) -> Result<Reply, AllocError>
         ensures numbers { KeepsNumbers self.old.world self.new.world }
-        ensures reply { IfOk result (λ r. IsReply self.new.world r (declaring (state_of self.old.world) at (domain_added name) (domain_declared self.old.world.sig name vars.now))) }
+        ensures reply { IfOk result (λ r. IsReply self.new.world r (limited (state_of self.old.world) at (declaring (state_of self.old.world) at (domain_added name) (domain_declared self.old.world.sig name vars.now)))) }
     {
+        let event = Event::Domain(name);
+        if self.is_too_long(alloc, &event)? {
+            return match self.world.sig.check_domain(name, vars.len()) {
+                Ok(()) => self.too_long(alloc, at),
+                Err(flaw) => self.refuse_declaration(alloc, at, DeclareError::Flawed(flaw)),
+            };
+        }
         match declare_domain(alloc, &mut self.world.sig, name, vars) {
-            Ok(()) => telling(alloc, Event::Domain(name)),
+            Ok(()) => replying(alloc, event, Next::Go),
             Err(error) => self.refuse_declaration(alloc, at, error),
         }
     }
@@ -281,14 +316,17 @@ impl Session {
     ) -> Result<Reply, AllocError>
         requires differ { IfSome list.now AreDistinct }
         ensures numbers { KeepsNumbers self.old.world self.new.world }
-        ensures reply { IfOk result (λ r. IsReply self.new.world r (declaring (state_of self.old.world) at (symbols_added names.now) (declared self.old.world.sig names.now list.now args.now result_sort.now))) }
+        ensures reply { IfOk result (λ r. IsReply self.new.world r (limited (state_of self.old.world) at (declaring (state_of self.old.world) at (symbols_added names.now) (declared self.old.world.sig names.now list.now args.now result_sort.now)))) }
     {
+        let event = Event::Symbols(Items::from_slice(alloc, names)?);
+        if self.is_too_long(alloc, &event)? {
+            return match check_symbols(alloc, &self.world.sig, names, list, args, result_sort) {
+                Ok(()) => self.too_long(alloc, at),
+                Err(error) => self.refuse_declaration(alloc, at, error),
+            };
+        }
         match declare(alloc, &mut self.world.sig, names, list, args, result_sort) {
-            Ok(()) => {
-                let told = Items::from_slice(alloc, names)?;
-                let reply = telling(alloc, Event::Symbols(told))?;
-                Ok(reply)
-            }
+            Ok(()) => replying(alloc, event, Next::Go),
             Err(error) => self.refuse_declaration(alloc, at, error),
         }
     }
@@ -300,7 +338,7 @@ impl Session {
         at: Pos,
         error: DeclareError,
     ) -> Result<Reply, AllocError>
-        ensures reply { (f : Flaw) → error ≡ DeclareError.Flawed f → IfOk result (λ r. IsReply self.now.world r (refusing (state_of self.now.world) at (declaration_refusal f))) }
+        ensures reply { (f : Flaw) → error ≡ DeclareError.Flawed f → IfOk result (λ r. IsReply self.now.world r (limited (state_of self.now.world) at (refusing (state_of self.now.world) at (declaration_refusal f)))) }
         ensures memory { error ≡ DeclareError.Memory → OnOk result ⊥ }
     {
         let flaw = match error {
@@ -308,97 +346,114 @@ impl Session {
             DeclareError::Memory => return Err(AllocError),
         };
         let fault = declaration_fault(alloc, flaw)?;
-        let reply = self.refusal(alloc, at, fault)?;
+        let reply = self.refusal(alloc, at, at, fault)?;
         Ok(reply)
     }
 
-    /// A sentence joins the base.
-    fn join(&mut self, p: SentId, origin: Origin) -> Result<(), AllocError>
-        requires { p.0 < length self.old.world.store.sents }
+    /// A sentence joins the base and is told, unless its line would be too long.
+    fn join(
+        &mut self,
+        alloc: Global,
+        place: Pos,
+        p: SentId,
+        origin: Origin,
+        event: Event,
+    ) -> Result<Reply, AllocError>
+        requires inside { p.0 < length self.old.world.store.sents }
+        requires known { IsEventIn self.old.world.store event }
         ensures numbers { KeepsNumbers self.old.world self.new.world }
-        ensures store { self.new.world.store ≡ self.old.world.store }
-        ensures sig { self.new.world.sig ≡ self.old.world.sig }
-        ensures state { OnOk result (state_of self.new.world ≡ joining (state_of self.old.world) origin (sent_at self.old.world.store.sents p.0)) }
+        ensures reply { IfOk result (λ r. IsReply self.new.world r (limited (state_of self.old.world) place (telling (joining (state_of self.old.world) origin (sent_at self.old.world.store.sents p.0)) (event_of self.old.world.store event)))) }
     {
+        if self.is_too_long(alloc, &event)? {
+            return self.too_long(alloc, place);
+        }
         let scope = self.world.base.add(self.world.scope, p, origin)?;
         self.world.scope = scope;
-        Ok(())
+        replying(alloc, event, Next::Go)
     }
 
     /// Asserts the sentence of a phrase, or its universal closure.
-    fn assert(&mut self, alloc: Global, closed: bool, phrase: PhraseId) -> Result<Reply, AllocError>
+    fn assert(
+        &mut self,
+        alloc: Global,
+        place: Pos,
+        closed: bool,
+        phrase: PhraseId,
+    ) -> Result<Reply, AllocError>
         requires phrase { (x : Phrase) × IsPhrase self.old.world.phrases phrase x }
         ensures numbers { KeepsNumbers self.old.world self.new.world }
-        ensures reply { IfOk result (λ r. (x : Phrase) → IsPhrase self.old.world.phrases phrase x → IsReply self.new.world r (asserting (state_of self.old.world) closed (place x) (outcome_in (state_of self.old.world) x))) }
+        ensures reply { IfOk result (λ r. (x : Phrase) → IsPhrase self.old.world.phrases phrase x → IsReply self.new.world r (limited (state_of self.old.world) place (asserting (state_of self.old.world) closed (place_of x) (outcome_in (state_of self.old.world) x)))) }
     {
         let at = self.world.phrases.node(phrase).pos;
         match run(alloc, &mut self.world, phrase)? {
-            Outcome::Value(value) => self.assert_value(alloc, closed, at, value),
-            Outcome::Theorem(p) => self.assert_value(alloc, closed, at, Value::Sent(p)),
-            Outcome::Error(fault, at) => self.refusal(alloc, at, fault),
-            Outcome::Exhausted(at) => ending(alloc, at),
+            Outcome::Value(value) => self.assert_value(alloc, place, closed, at, value),
+            Outcome::Theorem(p) => self.assert_value(alloc, place, closed, at, Value::Sent(p)),
+            Outcome::Error(fault, at) => self.refusal(alloc, place, at, fault),
+            Outcome::Exhausted(at) => self.reply(alloc, place, Event::Fuel(at), Next::Stop),
         }
     }
 
     fn assert_value(
         &mut self,
         alloc: Global,
+        place: Pos,
         closed: bool,
         at: Pos,
         value: Value,
     ) -> Result<Reply, AllocError>
         requires known { IsIn self.old.world.store value }
         ensures numbers { KeepsNumbers self.old.world self.new.world }
-        ensures reply { IfOk result (λ r. IsReply self.new.world r (asserting_sentence (state_of self.old.world) closed at (sentence_of (value_at self.old.world.store value)))) }
+        ensures reply { IfOk result (λ r. IsReply self.new.world r (limited (state_of self.old.world) place (asserting_sentence (state_of self.old.world) closed at (sentence_of (value_at self.old.world.store value))))) }
     {
         let Some(p) = sentence(&mut self.world.store, value)? else {
-            let reply = self.refusal(alloc, at, Fault::plain(alloc, FaultKind::NotSentence))?;
+            let fault = Fault::plain(alloc, FaultKind::NotSentence);
+            let reply = self.refusal(alloc, place, at, fault)?;
             return Ok(reply);
         };
-        let reply = self.assert_sentence(alloc, closed, at, p)?;
+        let reply = self.assert_sentence(alloc, place, closed, at, p)?;
         Ok(reply)
     }
 
     fn assert_sentence(
         &mut self,
         alloc: Global,
+        place: Pos,
         closed: bool,
         at: Pos,
         p: SentId,
     ) -> Result<Reply, AllocError>
         requires { p.0 < length self.old.world.store.sents }
         ensures numbers { KeepsNumbers self.old.world self.new.world }
-        ensures reply { IfOk result (λ r. IsReply self.new.world r (asserting_built (state_of self.old.world) at (to_assert closed (sent_at self.old.world.store.sents p.0)))) }
+        ensures reply { IfOk result (λ r. IsReply self.new.world r (limited (state_of self.old.world) place (asserting_built (state_of self.old.world) at (to_assert closed (sent_at self.old.world.store.sents p.0))))) }
     {
         match to_assert(alloc, &mut self.world.store, closed, p) {
             Ok(p) => {
-                self.join(p, Origin::Asserted)?;
-                let reply = telling(alloc, Event::Assertion(p))?;
+                let reply = self.join(alloc, place, p, Origin::Asserted, Event::Assertion(p))?;
                 Ok(reply)
             }
             Err(error) => {
                 let fault = build_fault(alloc, error)?;
-                let reply = self.refusal(alloc, at, fault)?;
+                let reply = self.refusal(alloc, place, at, fault)?;
                 Ok(reply)
             }
         }
     }
 
     /// Shows the value of an expression; the conclusion of a deduction joins the base.
-    fn show(&mut self, alloc: Global, phrase: PhraseId) -> Result<Reply, AllocError>
+    fn show(&mut self, alloc: Global, place: Pos, phrase: PhraseId) -> Result<Reply, AllocError>
         requires phrase { (x : Phrase) × IsPhrase self.old.world.phrases phrase x }
         ensures numbers { KeepsNumbers self.old.world self.new.world }
-        ensures reply { IfOk result (λ r. (x : Phrase) → IsPhrase self.old.world.phrases phrase x → IsReply self.new.world r (showing (state_of self.old.world) (outcome_in (state_of self.old.world) x))) }
+        ensures reply { IfOk result (λ r. (x : Phrase) → IsPhrase self.old.world.phrases phrase x → IsReply self.new.world r (limited (state_of self.old.world) place (showing (state_of self.old.world) (outcome_in (state_of self.old.world) x)))) }
     {
         match run(alloc, &mut self.world, phrase)? {
-            Outcome::Value(value) => telling(alloc, Event::Shown(value)),
+            Outcome::Value(value) => self.reply(alloc, place, Event::Shown(value), Next::Go),
             Outcome::Theorem(p) => {
-                self.join(p, Origin::Concluded)?;
-                let reply = telling(alloc, Event::Theorem(p))?;
+                let event = Event::Theorem(p);
+                let reply = self.join(alloc, place, p, Origin::Concluded, event)?;
                 Ok(reply)
             }
-            Outcome::Error(fault, at) => self.refusal(alloc, at, fault),
-            Outcome::Exhausted(at) => ending(alloc, at),
+            Outcome::Error(fault, at) => self.refusal(alloc, place, at, fault),
+            Outcome::Exhausted(at) => self.reply(alloc, place, Event::Fuel(at), Next::Stop),
         }
     }
 

@@ -1,5 +1,5 @@
 -- What a declaration does: the signature that grows, and the reply.
-use Rattle.std.proofs.Common.{◌≡◌, List, [], ◌∷◌, Option, Result, Ok, Err, IfOk, refl, sym, ◌∙◌, ap, subst, take}
+use Rattle.std.proofs.Common.{◌≡◌, nat_lt, false, List, [], ◌∷◌, Option, Result, Ok, Err, IfOk, refl, sym, ◌∙◌, ap, subst, take}
 use Rattle.std.specs.Prelude.{IfSome, OnErr, OnOk}
 use Rattle.ath_sorts.specs.declared.sorts.Sym.{Sym}
 use Rattle.ath_sorts.specs.declared.signature.Flaw.{Flaw}
@@ -21,12 +21,15 @@ use Rattle.ath_print.specs.Events.{Event}
 use Rattle.ath_print.specs.Stands.{event_of, IsEventIn}
 use Rattle.ath_eval.specs.declared.world.World.{World}
 use Rattle.ath_session.specs.State.{State, with_signature}
-use Rattle.ath_session.specs.Directives.{declaring, refusing, declaration_refusal}
+use Rattle.ath_print.specs.declared.limits.TheConstants.{MOST_LINE_BYTES}
+use Rattle.ath_print.specs.Lines.{bytes_of_line}
+use Rattle.ath_session.specs.Directives.{declaring, refusing, declaration_refusal, limited}
 use Rattle.ath_session.specs.declared.session.Next.TheVariants as next
 use Rattle.ath_session.specs.declared.session.Reply.{Reply}
 use Rattle.ath_session.specs.Session.{state_of, next_of, IsReply}
 use Rattle.ath_eval.proofs.Kept.{kept_store}
 use Rattle.ath_session.proofs.SessionLaws.{reply_as, one_event}
+use Rattle.ath_session.proofs.LimitLaws.{told_short}
 
 -- what the one signature has, the other has, and it is as good
 pub record GrowsTo (old new : Signature) : Type 0 where
@@ -58,23 +61,24 @@ same_flaw f g e = cc
 
 module _ (w u : World) (same : state_of u ≡ with_signature (state_of w) u.sig) (at : Pos) (event : Event) (outcome : Result Signature Flaw) (r : Result (Unit {0}) DeclareError) (change : MatchChange outcome w.sig u.sig r) where
   abbrev Declares : Reply → Type 0
-  Declares reply = IsReply u reply (declaring (state_of w) at event outcome)
+  Declares reply = IsReply u reply (limited (state_of w) at (declaring (state_of w) at event outcome))
 
-  pub declared_reply : (reply : Reply) (x : told.Event) → r ≡ Ok tt → reply.events.items ≡ x ∷ [] → reply.next ≡ next.Go → IsEventIn u.store x → event_of u.store x ≡ event → Declares reply
-  declared_reply reply x ok e n k is =
+  pub declared_reply : (reply : Reply) (x : told.Event) → r ≡ Ok tt → reply.events.items ≡ x ∷ [] → reply.next ≡ next.Go → IsEventIn u.store x → event_of u.store x ≡ event → false ≡ nat_lt MOST_LINE_BYTES (bytes_of_line w.names u.sig event) → Declares reply
+  declared_reply reply x ok e n k is short =
       let h : outcome ≡ Ok u.sig = subst (MatchChange outcome w.sig u.sig) ok change in
-      reply_as u reply (declaring (state_of w) at event (Ok u.sig)) _ (ap (declaring (state_of w) at event) (sym h))
-      (record { events = one_event u.store reply.events.items x event e k is; next = ap next_of n; state = same })
+      let st = state_of w in
+      reply_as u reply _ _ (ap (λ (o : Result Signature Flaw). limited st at (declaring st at event o)) (sym h))
+      (told_short u reply st at (declaring st at event (Ok u.sig)) event refl short (record { events = one_event u.store reply.events.items x event e k is; next = ap next_of n; state = same }))
 
-  refused_as : (reply : Reply) (f : Flaw) → outcome ≡ Err f → u.sig ≡ w.sig → IsReply u reply (refusing (state_of u) at (declaration_refusal f)) → Declares reply
+  refused_as : (reply : Reply) (f : Flaw) → outcome ≡ Err f → u.sig ≡ w.sig → IsReply u reply (limited (state_of u) at (refusing (state_of u) at (declaration_refusal f))) → Declares reply
   refused_as reply f h sig k =
       let s : state_of u ≡ state_of w = same ∙ ap (with_signature (state_of w)) sig in
-      reply_as u reply _ _ (ap (λ (st : State). refusing st at (declaration_refusal f)) s ∙ ap (declaring (state_of w) at event) (sym h)) k
+      reply_as u reply _ _ (ap (λ (st : State). limited st at (refusing st at (declaration_refusal f))) s ∙ ap (λ (o : Result Signature Flaw). limited (state_of w) at (declaring (state_of w) at event o)) (sym h)) k
 
-  pub refused_reply : {E : Type 0} (a : Result Reply E) (e : DeclareError) → r ≡ Err e → (e ≡ Memory → OnOk a ⊥) → ((f : Flaw) → e ≡ Flawed f → IfOk a (λ reply. IsReply u reply (refusing (state_of u) at (declaration_refusal f)))) → IfOk a Declares
+  pub refused_reply : {E : Type 0} (a : Result Reply E) (e : DeclareError) → r ≡ Err e → (e ≡ Memory → OnOk a ⊥) → ((f : Flaw) → e ≡ Flawed f → IfOk a (λ reply. IsReply u reply (limited (state_of u) at (refusing (state_of u) at (declaration_refusal f))))) → IfOk a Declares
   refused_reply (Err m) e is wanted h = tt
   refused_reply (Ok reply) e is wanted h = by e (subst (MatchChange outcome w.sig u.sig) is change) wanted h
     where
-      by : (e : DeclareError) → MatchChange outcome w.sig u.sig (Err e) → (e ≡ Memory → ⊥) → ((f : Flaw) → e ≡ Flawed f → IsReply u reply (refusing (state_of u) at (declaration_refusal f))) → Declares reply
+      by : (e : DeclareError) → MatchChange outcome w.sig u.sig (Err e) → (e ≡ Memory → ⊥) → ((f : Flaw) → e ≡ Flawed f → IsReply u reply (limited (state_of u) at (refusing (state_of u) at (declaration_refusal f)))) → Declares reply
       by (Flawed f) c m k = refused_as reply f c.0 c.1 (k f refl)
       by Memory c m k = absurd (m refl)

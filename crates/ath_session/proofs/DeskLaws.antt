@@ -140,6 +140,26 @@ module _ (c : Configuration) (e : events.Event) (told : Option Texts) (sink sink
     (refl, ap (λ (k : Option Held). record { shelf = told; sink = k }) (put ∙ ap (λ (bs : List ℕ). with_put sink (take count bs)) is) ∙ ap (λ (t : Option Texts). record { shelf = t; sink = with_put sink (take count (line_of c.state.names c.state.signature c.files e)) }) (sym (asked_none told))),
   )
 
+  pub line_told : (before after : Bool) → after ≡ (before || has_error (said c e ∷ [])) → sink' ≡ with_put sink bytes → Did (goes (said c e ∷ []) c) On before after c (record { shelf = told; sink = sink }) (record { shelf = told; sink = sink' })
+  line_told before after errors put = (
+    said c e ∷ [],
+    (
+      refl,
+      errors,
+      ap (λ (k : Option Held). record { shelf = told; sink = k }) (put ∙ ap (with_put sink) is) ∙ ap (λ (t : Option Texts). record { shelf = t; sink = with_put sink (line_of c.state.names c.state.signature c.files e) }) (sym (asked_none told)),
+    ),
+  )
+
+  pub error_before : (before after : Bool) → before ≡ true → after ≡ true → after ≡ (before || has_error (said c e ∷ []))
+  error_before before after h g = g ∙ sym (ap (λ (b : Bool). b || has_error (said c e ∷ [])) h)
+
+  pub error_now : (before after : Bool) → before ≡ false → after ≡ events.is_refused e → after ≡ (before || has_error (said c e ∷ []))
+  error_now before after h g = g ∙ sym (or-false (events.is_refused e)) ∙ sym (ap (λ (b : Bool). b || has_error (said c e ∷ [])) h)
+
+pub put_whole : {E : Type 0} (before after : Option Held) (bytes : List ℕ) (r : Result (Unit {0}) E) → Puts before bytes r after → is_err r ≡ false → after ≡ with_put before bytes
+put_whole before after bytes (Ok u) h e = h
+put_whole before after bytes (Err x) h e = absurd (cc)
+
 pub put_failed : {E : Type 0} (before after : Option Held) (bytes : List ℕ) (r : Result (Unit {0}) E) → Puts before bytes r after → is_err r ≡ true → (count : ℕ) × (after ≡ with_put before (take count bytes))
 put_failed before after bytes (Ok u) h e = absurd (cc)
 put_failed before after bytes (Err x) h e = h

@@ -9,7 +9,7 @@ use Rattle.ath_terms.specs.declared.measure.BuildError.{BuildError}
 use Rattle.ath_terms.specs.declared.measure.BuildError.TheVariants.{Memory}
 use Rattle.ath_trees.specs.declared.node.SentId.{SentId}
 use Rattle.ath_trees.specs.Tree.{Sent}
-use Rattle.ath_construction.specs.Construction.{Unbuilt, Built, builds, refuses}
+use Rattle.ath_construction.specs.Construction.{Unbuilt, Built, refuses}
 use Rattle.ath_construction.specs.Answers.{IsSentBuilt}
 use Rattle.ath_env.specs.Values.{sentence_of}
 use Rattle.ath_env.specs.Stands.{value_at, IsSentenceOf}
@@ -19,7 +19,6 @@ use Rattle.ath_print.specs.declared.fault.Fault.{Fault}
 use Rattle.ath_print.specs.declared.fault.FaultKind.{FaultKind}
 use Rattle.ath_print.specs.declared.fault.FaultKind.TheVariants.{NotSentence}
 use Rattle.ath_print.specs.declared.event.Event as told
-use Rattle.ath_print.specs.declared.event.Event.TheVariants as telling
 use Rattle.ath_print.specs.Events.{Event}
 use Rattle.ath_print.specs.Stands.{argument_of, refusal_of, IsFaultIn, IsRefusal, event_of, IsEventIn}
 use Rattle.ath_eval.specs.declared.world.World.{World}
@@ -38,7 +37,7 @@ use Rattle.ath_eval.proofs.Answering.{refused_why}
 use Rattle.ath_eval.proofs.Worlds.{base_same}
 use Rattle.ath_terms.specs.declared.fresh.Fresh.{Fresh}
 use Rattle.ath_session.specs.State.{State, with_left, joining}
-use Rattle.ath_session.specs.Directives.{loads, Effect, to_assert, asserting_built, asserting_sentence, asserting, showing, refusing, ending, loading}
+use Rattle.ath_session.specs.Directives.{loads, Effect, to_assert, asserting_built, asserting_sentence, asserting, showing, refusing, ending, loading, limited}
 use Rattle.ath_session.specs.declared.session.Next.TheVariants as next
 use Rattle.ath_session.specs.declared.session.Reply.{Reply}
 use Rattle.ath_session.specs.Session.{state_of, AreEvents, next_of, IsReply}
@@ -73,6 +72,14 @@ state_moved w v e still =
 
 pub state_left : (w v : World) (left : ℕ) (made : Fresh) → Evaluates w v → v.scope ≡ w.scope → v.fuel ≡ left → v.fresh ≡ made → state_of v ≡ with_left (state_of w) (left_of left made)
 state_left w v left made e still f g = state_moved w v e still ∙ (λ i. with_left (state_of w) (left_of (f i) (g i)))
+
+-- an effect within the limit, after an evaluation
+pub limited_as : (w v : World) → Evaluates w v → v.scope ≡ w.scope → (at : Pos) (e f : Effect) → e ≡ f → limited (state_of v) at e ≡ limited (state_of w) at f
+limited_as w v moved still at e f h = ap (λ (st : State). limited st at e) (state_moved w v moved still) ∙ ap (limited (state_of w) at) h
+
+-- what is told of an event, where the run goes on or ends
+abbrev pub telling_in : State → Event → next.the_data → Effect
+telling_in st x n = record { state = st; events = x ∷ []; next = next_of n }
 
 -- ---- what an evaluation gives, asserted
 module _ (w v : World) (moved : Evaluates w v) (still : v.scope ≡ w.scope) where
@@ -116,55 +123,48 @@ module _ (w v : World) (moved : Evaluates w v) (still : v.scope ≡ w.scope) whe
   error_shown at f (concludes y after) h = absurd h
   error_shown at f (exhausts inner made) h = absurd h
 
-  spent_here : (r : Reply) (at inner : Pos) (made : Fresh) → (at ≡ inner) → v.fuel ≡ 0 → v.fresh ≡ made → r.events.items ≡ telling.Fuel at ∷ [] → r.next ≡ next.Stop → IsReply v r (ending (state_of w) inner made)
-  spent_here r at inner made p f g e n = record {
-    events = one_event v.store r.events.items (telling.Fuel at) (Event.exhausted inner) e tt (ap Event.exhausted p);
-    next = ap next_of n;
-    state = state_left w v 0 made moved still f g;
-  }
+  spent_asserted_here : (at inner : Pos) (made : Fresh) → at ≡ inner → v.fuel ≡ 0 → v.fresh ≡ made → telling_in (state_of v) (Event.exhausted at) next.Stop ≡ ending (state_of w) inner made
+  spent_asserted_here at inner made p f g =
+      let s = state_left w v 0 made moved still f g in
+      λ i. telling_in (s i) (Event.exhausted (p i)) next.Stop
 
-  pub spent_asserted : (closed : Bool) (r : Reply) (at place : Pos) (o : Outcome) → IsOutcome v.store v.fuel v.fresh (out.Exhausted at) o → r.events.items ≡ telling.Fuel at ∷ [] → r.next ≡ next.Stop → IsReply v r (asserting (state_of w) closed place o)
-  spent_asserted closed r at place (exhausts inner made) h e n = spent_here r at inner made h.0 h.1 h.2 e n
-  spent_asserted closed r at place (gives y after) h e n = absurd h
-  spent_asserted closed r at place (concludes y after) h e n = absurd h
-  spent_asserted closed r at place (fails inner why after) h e n = absurd h
+  pub spent_asserted : (closed : Bool) (at place : Pos) (o : Outcome) → IsOutcome v.store v.fuel v.fresh (out.Exhausted at) o → telling_in (state_of v) (Event.exhausted at) next.Stop ≡ asserting (state_of w) closed place o
+  spent_asserted closed at place (exhausts inner made) h = spent_asserted_here at inner made h.0 h.1 h.2
+  spent_asserted closed at place (gives y after) h = absurd h
+  spent_asserted closed at place (concludes y after) h = absurd h
+  spent_asserted closed at place (fails inner why after) h = absurd h
 
-  pub spent_shown : (r : Reply) (at : Pos) (o : Outcome) → IsOutcome v.store v.fuel v.fresh (out.Exhausted at) o → r.events.items ≡ telling.Fuel at ∷ [] → r.next ≡ next.Stop → IsReply v r (showing (state_of w) o)
-  spent_shown r at (exhausts inner made) h e n = spent_here r at inner made h.0 h.1 h.2 e n
-  spent_shown r at (gives y after) h e n = absurd h
-  spent_shown r at (concludes y after) h e n = absurd h
-  spent_shown r at (fails inner why after) h e n = absurd h
+  pub spent_shown : (at : Pos) (o : Outcome) → IsOutcome v.store v.fuel v.fresh (out.Exhausted at) o → telling_in (state_of v) (Event.exhausted at) next.Stop ≡ showing (state_of w) o
+  spent_shown at (exhausts inner made) h = spent_asserted_here at inner made h.0 h.1 h.2
+  spent_shown at (gives y after) h = absurd h
+  spent_shown at (concludes y after) h = absurd h
+  spent_shown at (fails inner why after) h = absurd h
 
-  pub value_shown : (r : Reply) (x : coded.Value) (o : Outcome) → IsOutcome v.store v.fuel v.fresh (out.Value x) o → r.events.items ≡ telling.Shown x ∷ [] → r.next ≡ next.Go → IsReply v r (showing (state_of w) o)
-  value_shown r x (gives y after) h e n = record {
-    events = one_event v.store r.events.items (telling.Shown x) (Event.shown y) e h.0.0 (ap Event.shown h.0.1);
-    next = ap next_of n;
-    state = state_left w v after.fuel after.fresh moved still h.1 h.2;
-  }
-  value_shown r x (concludes y after) h e n = absurd h
-  value_shown r x (fails inner why after) h e n = absurd h
-  value_shown r x (exhausts inner made) h e n = absurd h
-
-  -- the conclusion, when it has joined the base
-  pub theorem_shown : (u : World) (r : Reply) (p : SentId) (o : Outcome) → IsOutcome v.store v.fuel v.fresh (out.Theorem p) o → u.store ≡ v.store → state_of u ≡ joining (state_of v) Concluded (trees.sent_at v.store.sents p.0) → r.events.items ≡ telling.Theorem p ∷ [] → r.next ≡ next.Go → IsReply u r (showing (state_of w) o)
-  theorem_shown u r p (concludes y after) h m j e n =
+  pub value_shown : (x : coded.Value) (o : Outcome) → IsOutcome v.store v.fuel v.fresh (out.Value x) o → telling_in (state_of v) (Event.shown (value_at v.store x)) next.Go ≡ showing (state_of w) o
+  value_shown x (gives y after) h =
       let s = state_left w v after.fuel after.fresh moved still h.1 h.2 in
       let q = h.0.1 in
-      record {
-        events = subst (λ (t : trees.Trees). AreEvents t r.events.items (Event.proved y ∷ [])) (sym m) (one_event v.store r.events.items (telling.Theorem p) (Event.proved y) e h.0.0 (ap Event.proved q));
-        next = ap next_of n;
-        state = j ∙ (λ i. joining (s i) Concluded (q i));
-      }
-  theorem_shown u r p (gives y after) h m j e n = absurd h
-  theorem_shown u r p (fails inner why after) h m j e n = absurd h
-  theorem_shown u r p (exhausts inner made) h m j e n = absurd h
+      λ i. telling_in (s i) (Event.shown (q i)) next.Go
+  value_shown x (concludes y after) h = absurd h
+  value_shown x (fails inner why after) h = absurd h
+  value_shown x (exhausts inner made) h = absurd h
+
+  -- the conclusion, when it has joined the base
+  pub theorem_shown : (p : SentId) (o : Outcome) → IsOutcome v.store v.fuel v.fresh (out.Theorem p) o → telling_in (joining (state_of v) Concluded (trees.sent_at v.store.sents p.0)) (Event.proved (trees.sent_at v.store.sents p.0)) next.Go ≡ showing (state_of w) o
+  theorem_shown p (concludes y after) h =
+      let s = state_left w v after.fuel after.fresh moved still h.1 h.2 in
+      let q = h.0.1 in
+      λ i. telling_in (joining (s i) Concluded (q i)) (Event.proved (q i)) next.Go
+  theorem_shown p (gives y after) h = absurd h
+  theorem_shown p (fails inner why after) h = absurd h
+  theorem_shown p (exhausts inner made) h = absurd h
 
 -- ---- what is refused
 pub plain_refusal : (s : trees.Trees) (f : Fault) (k : FaultKind) → f.kind ≡ k → f.args ≡ [] → refusal_of s f ≡ refusal k []
 plain_refusal s f k e g = λ i. record { kind = e i; args = map (argument_of s) (g i) }
 
-pub refused_plainly : (w : World) (r : Reply) (at : Pos) (f : Fault) (k : FaultKind) (e : Effect) → f.kind ≡ k → f.args ≡ [] → refusing (state_of w) at (refusal k []) ≡ e → IsReply w r (refusing (state_of w) at (refusal_of w.store f)) → IsReply w r e
-refused_plainly w r at f k e p q g h = reply_as w r _ e (ap (refusing (state_of w) at) (plain_refusal w.store f k p q) ∙ g) h
+pub refused_plainly : (w : World) (r : Reply) (place at : Pos) (f : Fault) (k : FaultKind) (e : Effect) → f.kind ≡ k → f.args ≡ [] → refusing (state_of w) at (refusal k []) ≡ e → IsReply w r (limited (state_of w) place (refusing (state_of w) at (refusal_of w.store f))) → IsReply w r (limited (state_of w) place e)
+refused_plainly w r place at f k e p q g h = reply_as w r _ _ (ap (limited (state_of w) place) (ap (refusing (state_of w) at) (plain_refusal w.store f k p q) ∙ g)) h
 
 -- ---- what is asserted, in a store that has grown
 module _ (w : World) (t : trees.Trees) (grown : trees.Grows w.store t) where
@@ -176,32 +176,28 @@ module _ (w : World) (t : trees.Trees) (grown : trees.Grows w.store t) where
 
   -- ---- the sentence that a value is
   module _ (x : coded.Value) (closed : Bool) (found : Option SentId) (h : IsSentenceOf t found (sentence_of (value_at w.store x))) where
-    pub no_sentence : (u : World) (r : Reply) (at : Pos) (f : Fault) → found ≡ None → f.kind ≡ NotSentence → f.args ≡ [] → IsReply u r (refusing grown_state at (refusal_of t f)) → IsReply u r (asserting_sentence (state_of w) closed at (sentence_of (value_at w.store x)))
-    no_sentence u r at f e k a p =
+    pub no_sentence : (u : World) (r : Reply) (place at : Pos) (f : Fault) → found ≡ None → f.kind ≡ NotSentence → f.args ≡ [] → IsReply u r (limited grown_state place (refusing grown_state at (refusal_of t f))) → IsReply u r (limited (state_of w) place (asserting_sentence (state_of w) closed at (sentence_of (value_at w.store x))))
+    no_sentence u r place at f e k a p =
         let n = sentence-none t found (sentence_of (value_at w.store x)) h e in
         let q = plain_refusal t f NotSentence k a in
         let s = same_state in
-        reply_as u r _ _ ((λ i. refusing (s i) at (q i)) ∙ ap (asserting_sentence (state_of w) closed at) (sym n)) p
+        reply_as u r _ _ ((λ i. limited (s i) place (refusing (s i) at (q i))) ∙ ap (limited (state_of w) place) (ap (asserting_sentence (state_of w) closed at) (sym n))) p
 
-    pub sentence_asserted : (u : World) (r : Reply) (at : Pos) (p : SentId) → found ≡ Some p → IsReply u r (asserting_built grown_state at (to_assert closed (trees.sent_at t.sents p.0))) → IsReply u r (asserting_sentence (state_of w) closed at (sentence_of (value_at w.store x)))
-    sentence_asserted u r at p e k =
+    pub sentence_asserted : (u : World) (r : Reply) (place at : Pos) (p : SentId) → found ≡ Some p → IsReply u r (limited grown_state place (asserting_built grown_state at (to_assert closed (trees.sent_at t.sents p.0)))) → IsReply u r (limited (state_of w) place (asserting_sentence (state_of w) closed at (sentence_of (value_at w.store x))))
+    sentence_asserted u r place at p e k =
         let y = sentence-some t found (sentence_of (value_at w.store x)) p h e in
         let q = y.2.1 in
         let s = same_state in
-        reply_as u r _ _ ((λ i. asserting_built (s i) at (to_assert closed (q i))) ∙ ap (asserting_sentence (state_of w) closed at) (sym y.1)) k
+        reply_as u r _ _ ((λ i. limited (s i) place (asserting_built (s i) at (to_assert closed (q i)))) ∙ ap (limited (state_of w) place) (ap (asserting_sentence (state_of w) closed at) (sym y.1))) k
 
   -- ---- what is built of it
   module _ (b : Built Sent) (made : Result SentId BuildError) (h : IsSentBuilt t b made) where
-    pub built_joined : (v : World) (r : Reply) (at : Pos) (p : SentId) → made ≡ Ok p → v.store ≡ t → state_of v ≡ joining grown_state Asserted (trees.sent_at t.sents p.0) → r.events.items ≡ telling.Assertion p ∷ [] → r.next ≡ next.Go → IsReply v r (asserting_built (state_of w) at b)
-    built_joined v r at p e m j a n =
+    pub built_joined : (v : World) (r : Reply) (place at : Pos) (p : SentId) → made ≡ Ok p → IsReply v r (limited grown_state place (telling_in (joining grown_state Asserted (trees.sent_at t.sents p.0)) (Event.asserted (trees.sent_at t.sents p.0)) next.Go)) → IsReply v r (limited (state_of w) place (asserting_built (state_of w) at b))
+    built_joined v r place at p e k =
         let y : IsSentBuilt t b (Ok p) = subst (IsSentBuilt t b) e h in
         let q = y.2.1 in
         let s = same_state in
-        reply_as v r (asserting_built (state_of w) at (builds y.0)) _ (ap (asserting_built (state_of w) at) (sym y.1)) (record {
-          events = subst (λ (t : trees.Trees). AreEvents t r.events.items (Event.asserted y.0 ∷ [])) (sym m) (one_event t r.events.items (telling.Assertion p) (Event.asserted y.0) a y.2.0 (ap Event.asserted q));
-          next = ap next_of n;
-          state = j ∙ (λ i. joining (s i) Asserted (q i));
-        })
+        reply_as v r _ _ ((λ i. limited (s i) place (telling_in (joining (s i) Asserted (q i)) (Event.asserted (q i)) next.Go)) ∙ ap (limited (state_of w) place) (ap (asserting_built (state_of w) at) (sym y.1))) k
 
     module _ (error : BuildError) (f : Fault) (e : made ≡ Err error) (some : error ≡ Memory → ⊥) (told : (why : Unbuilt) → IsWhy t error why → IsRefusal t f (building.told why)) where
       reason : (why : Unbuilt) × (b ≡ refuses why) × IsWhy t error why
@@ -210,11 +206,11 @@ module _ (w : World) (t : trees.Trees) (grown : trees.Grows w.store t) where
       pub fault_in : IsFaultIn t f
       fault_in = (told reason.0 reason.2).0
 
-      pub built_refused : (u : World) (r : Reply) (at : Pos) → IsReply u r (refusing grown_state at (refusal_of t f)) → IsReply u r (asserting_built (state_of w) at b)
-      built_refused u r at k =
+      pub built_refused : (u : World) (r : Reply) (place at : Pos) → IsReply u r (limited grown_state place (refusing grown_state at (refusal_of t f))) → IsReply u r (limited (state_of w) place (asserting_built (state_of w) at b))
+      built_refused u r place at k =
           let q = (told reason.0 reason.2).1 in
           let s = same_state in
-          reply_as u r _ _ ((λ i. refusing (s i) at (q i)) ∙ ap (asserting_built (state_of w) at) (sym reason.1)) k
+          reply_as u r _ _ ((λ i. limited (s i) place (refusing (s i) at (q i))) ∙ ap (limited (state_of w) place) (ap (asserting_built (state_of w) at) (sym reason.1))) k
 
 -- ---- a file that is loaded
 pub load_told : (w : World) (r : Reply) (name : List ℕ) → r.events.items ≡ [] → next_of r.next ≡ loads name → IsReply w r (loading (state_of w) name)

@@ -294,10 +294,10 @@ impl Session {
     {
         let event = Event::Domain(name);
         if self.is_too_long(alloc, &event)? {
-            return match self.world.sig.check_domain(name, vars.len()) {
-                Ok(()) => self.too_long(alloc, at),
-                Err(flaw) => self.refuse_declaration(alloc, at, DeclareError::Flawed(flaw)),
-            };
+            if let Err(flaw) = self.world.sig.check_domain(name, vars.len()) {
+                return self.refuse_declaration(alloc, at, DeclareError::Flawed(flaw));
+            }
+            return self.too_long(alloc, at);
         }
         match declare_domain(alloc, &mut self.world.sig, name, vars) {
             Ok(()) => replying(alloc, event, Next::Go),
@@ -320,10 +320,11 @@ impl Session {
     {
         let event = Event::Symbols(Items::from_slice(alloc, names)?);
         if self.is_too_long(alloc, &event)? {
-            return match check_symbols(alloc, &self.world.sig, names, list, args, result_sort) {
-                Ok(()) => self.too_long(alloc, at),
-                Err(error) => self.refuse_declaration(alloc, at, error),
-            };
+            let sig = &self.world.sig;
+            if let Err(error) = check_symbols(alloc, sig, names, list, args, result_sort) {
+                return self.refuse_declaration(alloc, at, error);
+            }
+            return self.too_long(alloc, at);
         }
         match declare(alloc, &mut self.world.sig, names, list, args, result_sort) {
             Ok(()) => replying(alloc, event, Next::Go),

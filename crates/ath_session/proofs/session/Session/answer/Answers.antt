@@ -4,7 +4,7 @@ use Rattle.ath_session.proofs.session.Session.answer.Goals as goal
 
 pub returns-in-Some-clause-reply : goal.returns-in-Some-clause-reply
 returns-in-Some-clause-reply c =
-    unbuilt_answered c.args.self.now.world c.args.directive.now c.in_ok-reply.reply c.in-Some.at c.plain.result (λ x h. sym c.in-Some.is ∙ c.unbuilt_in-unbuilt.ensures x h) c.plain.ensures.kind c.plain.ensures.args c.in_ok-reply.ensures
+    unbuilt_answered c.args.self.now.world c.args.directive.now c.in_ok-reply.reply c.in-Some.at c.plain-fault.result (λ x h. sym c.in-Some.is ∙ c.unbuilt_in-unbuilt.ensures x h) c.plain-fault.ensures.kind c.plain-fault.ensures.args c.in_ok-reply.ensures
 
 pub returns-clause-reply : goal.returns-clause-reply
 returns-clause-reply c =

@@ -19,7 +19,7 @@ pub(crate) fn text_of(alloc: Global, parts: &[(&[u8], u64)]) -> Result<Vec<u8>, 
     Ok(text)
 }
 
-const EXAMPLES: [Example; 29] = [
+const EXAMPLES: [Example; 30] = [
     // BadChar
     (
         &[(b"declare A: Boolean\nA \\ A\n", 1)],
@@ -186,6 +186,25 @@ const EXAMPLES: [Example; 29] = [
     (
         &[(b"declare mp: Boolean\n(!mp true)\n", 1)],
         "Symbols: mp\nError: \"x.ath\":2:1: NotMethod\n",
+    ),
+    // LineTooLong
+    (
+        &[
+            (
+                b"domain D\ndomain (a-domain-whose-name-makes-lines-long 'T)\ndeclare c:",
+                1,
+            ),
+            (b" (a-domain-whose-name-makes-lines-long", 63),
+            (b" D", 1),
+            (b")", 63),
+            (
+                b"\ndeclare P: ('S) ['S 'S 'S 'S 'S 'S 'S 'S] -> Boolean\n(and",
+                1,
+            ),
+            (b" (P c ?x ?x ?x ?x ?x ?x ?x)", 1000),
+            (b")\n", 1),
+        ],
+        "Domain: D\nDomain: a-domain-whose-name-makes-lines-long\nSymbols: c\nSymbols: P\nError: \"x.ath\":5:1: LineTooLong\n",
     ),
     // TooManyLoads
     (

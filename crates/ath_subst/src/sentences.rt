@@ -71,9 +71,9 @@ fn renewed_sent(
 ) -> Result<SentId, AllocError>
     requires { p.0 < length store.old.sents }
     ensures grows { Grows store.old store.new }
-    ensures tree { IfOk result (λ r. IsSent store.new r.0 (sent_at_sorts (image subst.now) (sent_at store.old.sents p.0))) }
     ensures same { (sig : Signature) → IsSortedIn sig store.old → sent_at_sorts (image subst.now) (sent_at store.old.sents p.0) ≡ sent_at store.old.sents p.0 → IsSame store.old store.new p result }
     ensures sorted { (sig : Signature) → IsSortedIn sig store.old → ((v : SVar) → is_valid_sort sig (image subst.now v) ≡ true) → IsSortedIn sig store.new }
+    ensures tree { IfOk result (λ r. IsSent store.new r.0 (sent_at_sorts (image subst.now) (sent_at store.old.sents p.0))) }
 {
     if keeps_sent(store, subst, p) {
         return Ok(p);

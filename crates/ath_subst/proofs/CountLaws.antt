@@ -11,7 +11,7 @@ use Rattle.ath_trees.specs.declared.node.TermId.{TermId}
 use Rattle.ath_trees.specs.declared.node.Var.{Var}
 use Rattle.ath_trees.specs.Measure.{term_size, term_depth, sent_size, sent_depth, IsSmall}
 use Rattle.ath_trees.specs.Substitution.{subst_term, subst_sent}
-use Rattle.ath_trees.specs.Tree.{Term, Sent, atom, equal}
+use Rattle.ath_trees.specs.Tree.{Term, Sent, atom, equal, negated, joined}
 use Rattle.ath_trees.specs.Variables.{same_var}
 use Rattle.ath_trees.proofs.SubstForms.{subst-atom, subst-equal, size-shadowed, depth-shadowed, size-bound, depth-bound, term-few, term-shallow, sent-few, sent-shallow}
 use Rattle.ath_terms.specs.Nodes.{parts_tree, conn_tree, arity}
@@ -50,35 +50,28 @@ pub few_sent_levels : (x : Var) (by : Term) (p : Sent) (n m b : ℕ) → m ≡ s
 few_sent_levels x by p n m b e h g k w = let r = sent-shallow x by p (omega arith) in omega arith
 
 -- ---- connectives
-pair-size : (c : Binary) (ps : List Sent) → length ps ≡ 2 → sent_size (parts_tree (Some c) ps) ≡ 1 + total sent_size ps
-pair-size c [] l = absurd (omega arith)
-pair-size c (p ∷ []) l = absurd (omega arith)
-pair-size c (p ∷ q ∷ []) l = omega arith
-pair-size c (p ∷ q ∷ r ∷ ps) l = absurd (omega arith)
+-- of a measure that counts a connective, and what its parts come to together
+module _ (m : Sent → ℕ) (all : List Sent → ℕ) (one : (p : Sent) → m (negated p) ≡ 1 + all (p ∷ [])) (two : (c : Binary) (p q : Sent) → m (joined c p q) ≡ 1 + all (p ∷ q ∷ [])) where
+  pair-measure : (c : Binary) (ps : List Sent) → length ps ≡ 2 → m (parts_tree (Some c) ps) ≡ 1 + all ps
+  pair-measure c [] l = absurd (omega arith)
+  pair-measure c (p ∷ []) l = absurd (omega arith)
+  pair-measure c (p ∷ q ∷ []) l = two c p q
+  pair-measure c (p ∷ q ∷ r ∷ ps) l = absurd (omega arith)
+
+  conn-measure : (c : Conn) (ps : List Sent) → length ps ≡ arity c → m (conn_tree c ps) ≡ 1 + all ps
+  conn-measure Not [] l = absurd (omega arith)
+  conn-measure Not (p ∷ []) l = one p
+  conn-measure Not (p ∷ q ∷ ps) l = absurd (omega arith)
+  conn-measure And ps l = pair-measure binary.And ps l
+  conn-measure Or ps l = pair-measure binary.Or ps l
+  conn-measure If ps l = pair-measure binary.If ps l
+  conn-measure Iff ps l = pair-measure binary.Iff ps l
 
 conn-size : (c : Conn) (ps : List Sent) → length ps ≡ arity c → sent_size (conn_tree c ps) ≡ 1 + total sent_size ps
-conn-size Not [] l = absurd (omega arith)
-conn-size Not (p ∷ []) l = omega arith
-conn-size Not (p ∷ q ∷ ps) l = absurd (omega arith)
-conn-size And ps l = pair-size binary.And ps l
-conn-size Or ps l = pair-size binary.Or ps l
-conn-size If ps l = pair-size binary.If ps l
-conn-size Iff ps l = pair-size binary.Iff ps l
-
-pair-depth : (c : Binary) (ps : List Sent) → length ps ≡ 2 → sent_depth (parts_tree (Some c) ps) ≡ 1 + most sent_depth ps
-pair-depth c [] l = absurd (omega arith)
-pair-depth c (p ∷ []) l = absurd (omega arith)
-pair-depth c (p ∷ q ∷ []) l = omega arith
-pair-depth c (p ∷ q ∷ r ∷ ps) l = absurd (omega arith)
+conn-size = conn-measure sent_size (total sent_size) (λ p. omega arith) (λ c p q. omega arith)
 
 conn-depth : (c : Conn) (ps : List Sent) → length ps ≡ arity c → sent_depth (conn_tree c ps) ≡ 1 + most sent_depth ps
-conn-depth Not [] l = absurd (omega arith)
-conn-depth Not (p ∷ []) l = omega arith
-conn-depth Not (p ∷ q ∷ ps) l = absurd (omega arith)
-conn-depth And ps l = pair-depth binary.And ps l
-conn-depth Or ps l = pair-depth binary.Or ps l
-conn-depth If ps l = pair-depth binary.If ps l
-conn-depth Iff ps l = pair-depth binary.Iff ps l
+conn-depth = conn-measure sent_depth (most sent_depth) (λ p. omega arith) (λ c p q. omega arith)
 
 total-map : (g : SentId → Sent) (xs : List SentId) → total sent_size (map g xs) ≡ total (λ j. sent_size (g j)) xs
 total-map g [] = refl

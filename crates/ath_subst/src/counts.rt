@@ -18,6 +18,36 @@ pub struct Counts {
     pub levels: u64,
 }
 
+impl Counts {
+    /// Those of a term of the store.
+    pub fn of_term(store: &Store, t: TermId) -> Counts
+        requires { t.0 < length store.now.terms }
+        ensures nodes { result.nodes ≡ term_size (term_at store.now.terms t.0) }
+        ensures levels { result.levels ≡ term_depth (term_at store.now.terms t.0) }
+        ensures few { result.nodes ≤ MOST_TERM_NODES }
+        ensures shallow { result.levels ≤ MOST_TERM_LEVELS }
+    {
+        Counts {
+            nodes: store.size(t),
+            levels: store.depth(t),
+        }
+    }
+
+    /// Those of a sentence of the store.
+    pub fn of_sent(store: &Store, p: SentId) -> Counts
+        requires { p.0 < length store.now.sents }
+        ensures nodes { result.nodes ≡ sent_size (sent_at store.now.sents p.0) }
+        ensures levels { result.levels ≡ sent_depth (sent_at store.now.sents p.0) }
+        ensures few { result.nodes ≤ MOST_TERM_NODES }
+        ensures shallow { result.levels ≤ MOST_TERM_LEVELS }
+    {
+        Counts {
+            nodes: store.sent_size(p),
+            levels: store.sent_depth(p),
+        }
+    }
+}
+
 /// Those of the term with another in place of a variable.
 pub fn term_counts(store: &Store, t: TermId, x: &Var, by: TermId) -> Counts
     requires inside { t.0 < length store.now.terms }
@@ -27,14 +57,8 @@ pub fn term_counts(store: &Store, t: TermId, x: &Var, by: TermId) -> Counts
     ensures few { result.nodes ≤ MOST_TERM_NODES * MOST_TERM_NODES }
     ensures shallow { result.levels ≤ MOST_TERM_LEVELS + MOST_TERM_LEVELS }
 {
-    let own = Counts {
-        nodes: store.size(t),
-        levels: store.depth(t),
-    };
-    let put = Counts {
-        nodes: store.size(by),
-        levels: store.depth(by),
-    };
+    let own = Counts::of_term(store, t);
+    let put = Counts::of_term(store, by);
     if lacks(store, t, x) {
         return own;
     }
@@ -71,17 +95,11 @@ pub fn sent_counts(store: &Store, p: SentId, x: &Var, by: TermId) -> Counts
     ensures few { result.nodes ≤ MOST_TERM_NODES * MOST_TERM_NODES }
     ensures shallow { result.levels ≤ MOST_TERM_LEVELS + MOST_TERM_LEVELS }
 {
-    let own = Counts {
-        nodes: store.sent_size(p),
-        levels: store.sent_depth(p),
-    };
-    let put = Counts {
-        nodes: store.size(by),
-        levels: store.depth(by),
-    };
+    let own = Counts::of_sent(store, p);
     if sent_lacks(store, p, x) {
         return own;
     }
+    let put = Counts::of_term(store, by);
     match store.sent(p) {
         SentNode::Atom(t) => term_counts(store, *t, x, by),
         SentNode::Eq(s, t) => {

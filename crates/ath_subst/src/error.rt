@@ -12,14 +12,14 @@ use thiserror::Error;
 /// Why a term or a sentence isn't built.
 #[derive(Debug, Drop, Error)]
 pub enum SubstError {
+    #[error("a sort is above the limits")]
+    SortTooLarge,
     /// it would have so many nodes
     #[error("{0} nodes, and 100000 are the most")]
     TooLarge(u64),
     /// it would have so many levels
     #[error("{0} levels, and 2000 are the most")]
     TooDeep(u64),
-    #[error("a sort is above the limits")]
-    SortTooLarge,
     #[error("out of memory")]
     Memory,
 }

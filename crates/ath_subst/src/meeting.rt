@@ -86,9 +86,9 @@ fn is_met_in_term(
     alloc: Global,
     store: &Store,
     subst: &SortSubst,
+    t: TermId,
     v: &Var,
     bound: &[Var],
-    t: TermId,
 ) -> Result<bool, AllocError>
     requires { t.0 < length store.now.terms }
     ensures { IfOk result (λ b. b ≡ list_any (meets_past (image subst.now) v.now bound.now) (term_vars (term_at store.now.terms t.0))) }
@@ -104,7 +104,7 @@ fn is_met_in_term(
         TermNode::App(_, _, args) => {
             let parts = args.as_slice();
             for i in 0..parts.len() {
-                let met = is_met_in_term(alloc, store, subst, v, bound, parts[i])?;
+                let met = is_met_in_term(alloc, store, subst, parts[i], v, bound)?;
                 if met {
                     return Ok(true);
                 }
@@ -131,15 +131,15 @@ pub fn is_met_past(
     }
     match store.sent(p) {
         SentNode::Atom(t) => {
-            let met = is_met_in_term(alloc, store, subst, v, bound, *t)?;
+            let met = is_met_in_term(alloc, store, subst, *t, v, bound)?;
             Ok(met)
         }
         SentNode::Eq(s, t) => {
-            let met = is_met_in_term(alloc, store, subst, v, bound, *s)?;
+            let met = is_met_in_term(alloc, store, subst, *s, v, bound)?;
             if met {
                 return Ok(true);
             }
-            let other = is_met_in_term(alloc, store, subst, v, bound, *t)?;
+            let other = is_met_in_term(alloc, store, subst, *t, v, bound)?;
             Ok(other)
         }
         SentNode::Conn(_, ids) => {

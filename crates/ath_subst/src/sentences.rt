@@ -5,6 +5,7 @@ ghost use Rattle.ath_sorts.specs.Signature.{Signature};
 ghost use Rattle.ath_sorts.specs.Sorts.{image};
 ghost use Rattle.ath_sorts.specs.declared.sorts.SVar.{SVar};
 ghost use Rattle.ath_subst.specs.Same.{IsSame};
+ghost use Rattle.ath_terms.specs.Nodes.{sent_tree, IsSentBelow};
 ghost use Rattle.ath_terms.specs.Trees.{sent_at, Grows, IsSent};
 ghost use Rattle.ath_trees.specs.SortsIn.{sent_has_small_sorts};
 ghost use Rattle.ath_terms.specs.SortsIn.{IsSortedIn};
@@ -63,6 +64,7 @@ pub fn is_sent_within(store: &Store, subst: &SortSubst, p: SentId) -> bool
 }
 
 /// The sentence at the other sorts, part by part. A part that comes out as it was keeps its number.
+#[cycle(renewing)]
 fn renewed_sent(
     alloc: Global,
     store: &mut Store,
@@ -71,26 +73,47 @@ fn renewed_sent(
 ) -> Result<SentId, AllocError>
     requires { p.0 < length store.old.sents }
     ensures grows { Grows store.old store.new }
-    ensures tree { IfOk result (λ r. IsSent store.new r.0 (sent_at_sorts (image subst.now) (sent_at store.old.sents p.0))) }
     ensures same { (sig : Signature) → IsSortedIn sig store.old → sent_at_sorts (image subst.now) (sent_at store.old.sents p.0) ≡ sent_at store.old.sents p.0 → IsSame store.old store.new p result }
     ensures sorted { (sig : Signature) → IsSortedIn sig store.old → ((v : SVar) → is_valid_sort sig (image subst.now v) ≡ true) → IsSortedIn sig store.new }
+    ensures tree { IfOk result (λ r. IsSent store.new r.0 (sent_at_sorts (image subst.now) (sent_at store.old.sents p.0))) }
 {
     if keeps_sent(store, subst, p) {
         return Ok(p);
     }
+    let node = copied_node(alloc, store.sent(p))?;
+    let sent = renewed_node(alloc, store, subst, p, &node)?;
+    Ok(sent)
+}
+
+/// The same of a node that the sentence has.
+#[cycle(renewing)]
+fn renewed_node(
+    alloc: Global,
+    store: &mut Store,
+    subst: &SortSubst,
+    p: SentId,
+    node: &SentNode,
+) -> Result<SentId, AllocError>
+    requires inside { p.0 < length store.old.sents }
+    requires tree { sent_tree store.old.terms store.old.sents node.now ≡ sent_at store.old.sents p.0 }
+    requires below { IsSentBelow (length store.old.terms) p.0 node.now }
+    ensures grows { Grows store.old store.new }
+    ensures same { (sig : Signature) → IsSortedIn sig store.old → sent_at_sorts (image subst.now) (sent_at store.old.sents p.0) ≡ sent_at store.old.sents p.0 → IsSame store.old store.new p result }
+    ensures sorted { (sig : Signature) → IsSortedIn sig store.old → ((v : SVar) → is_valid_sort sig (image subst.now v) ≡ true) → IsSortedIn sig store.new }
+    ensures tree { IfOk result (λ r. IsSent store.new r.0 (sent_at_sorts (image subst.now) (sent_at store.old.sents p.0))) }
+{
     let nodes = store.sent_size(p);
     let levels = store.sent_depth(p);
-    let node = copied_node(alloc, store.sent(p))?;
-    match &node {
+    match node {
         SentNode::Atom(t) => {
             let term = term_under(alloc, store, subst, *t)?;
-            let sent = keep_sent(store, p, &node, SentNode::Atom(term), nodes, levels)?;
+            let sent = keep_sent(store, p, node, SentNode::Atom(term), nodes, levels)?;
             Ok(sent)
         }
         SentNode::Eq(s, t) => {
             let left = term_under(alloc, store, subst, *s)?;
             let right = term_under(alloc, store, subst, *t)?;
-            let sent = keep_sent(store, p, &node, SentNode::Eq(left, right), nodes, levels)?;
+            let sent = keep_sent(store, p, node, SentNode::Eq(left, right), nodes, levels)?;
             Ok(sent)
         }
         SentNode::Conn(c, ids) => {
@@ -100,7 +123,7 @@ fn renewed_sent(
                 let part = renewed_sent(alloc, store, subst, from[i])?;
                 parts.push(part)?;
             }
-            let sent = keep_sent(store, p, &node, SentNode::Conn(*c, parts), nodes, levels)?;
+            let sent = keep_sent(store, p, node, SentNode::Conn(*c, parts), nodes, levels)?;
             Ok(sent)
         }
         SentNode::Quant(k, v, body) => {
@@ -109,7 +132,7 @@ fn renewed_sent(
             let inner = renewed_sent(alloc, store, subst, binder.body)?;
             let variable = var_under(alloc, subst, &binder.variable)?;
             let whole = SentNode::Quant(*k, variable, inner);
-            let sent = keep_sent(store, p, &node, whole, nodes, levels)?;
+            let sent = keep_sent(store, p, node, whole, nodes, levels)?;
             Ok(sent)
         }
     }

@@ -42,11 +42,11 @@ pub fn subst_term(
     requires inside { t.0 < length store.old.terms }
     requires there { by.0 < length store.old.terms }
     requires fits { sort_at store.old.sorts by.0 ≡ x.now.sort }
+    ensures sort { (sig : Signature) → IsSortedIn sig store.old → IfOk result (λ r. sort_at store.new.sorts r.0 ≡ sort_at store.old.sorts t.0) }
     ensures grows { Grows store.old store.new }
     ensures built { IsTermGiven store.new (term_substituted x.now (term_at store.old.terms by.0) (term_at store.old.terms t.0)) result }
     ensures same { subst_term x.now (term_at store.old.terms by.0) (term_at store.old.terms t.0) ≡ term_at store.old.terms t.0 → IsSame store.old store.new t result }
     ensures sorted { (sig : Signature) → IsSortedIn sig store.old → IsSortedIn sig store.new }
-    ensures sort { (sig : Signature) → IsSortedIn sig store.old → IfOk result (λ r. sort_at store.new.sorts r.0 ≡ sort_at store.old.sorts t.0) }
 {
     let counts = term_counts(store, t, x, by);
     check_counts(counts)?;

@@ -131,9 +131,9 @@ fn renewed_term(
 ) -> Result<TermId, AllocError>
     requires { t.0 < length store.old.terms }
     ensures grows { Grows store.old store.new }
-    ensures tree { IfOk result (λ r. IsTermOf store.new r.0 (term_under (image subst.now) (term_at store.old.terms t.0)) (apply_to (image subst.now) (sort_at store.old.sorts t.0))) }
     ensures same { (sig : Signature) → IsSortedIn sig store.old → term_under (image subst.now) (term_at store.old.terms t.0) ≡ term_at store.old.terms t.0 → IsSame store.old store.new t result }
     ensures sorted { (sig : Signature) → IsSortedIn sig store.old → ((v : SVar) → is_valid_sort sig (image subst.now v) ≡ true) → IsSortedIn sig store.new }
+    ensures tree { IfOk result (λ r. IsTermOf store.new r.0 (term_under (image subst.now) (term_at store.old.terms t.0)) (apply_to (image subst.now) (sort_at store.old.sorts t.0))) }
 {
     if keeps_term(store, subst, t) {
         return Ok(t);

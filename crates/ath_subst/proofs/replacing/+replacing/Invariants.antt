@@ -1,4 +1,4 @@
-use Rattle.std.proofs.Common.{◌≡◌, take}
+use Rattle.std.proofs.Common.{◌*◌, ◌+◌, ◌≡◌, take}
 use Rattle.ath_sorts.specs.Signature.{Signature}
 use Rattle.ath_terms.specs.Lists.{AreSents}
 use Rattle.ath_terms.specs.SortsIn.{IsSortedIn}
@@ -7,13 +7,16 @@ use Rattle.ath_trees.specs.Measure.{sent_depth}
 use Rattle.ath_trees.specs.Substitution.{subst_sent}
 use Rattle.ath_subst.proofs.SameLaws.{Stay, AreSame}
 use Rattle.ath_subst.proofs.SentLaws.{sent_images}
-use Rattle.ath_subst.proofs.replacing.+put_sent.Given as goal
+use Rattle.ath_subst.proofs.replacing.+replacing.Given as goal
 
 abbrev pub decreases-put_sent : goal.decreases-put_sent
-decreases-put_sent l = sent_depth (sent_at l.store.now.sents l.p.0)
+decreases-put_sent l = 2 * sent_depth (sent_at l.store.now.sents l.p.0) + 1
 
-abbrev pub invariant-loop-i : goal.invariant-loop-i
-invariant-loop-i l = record {
+abbrev pub decreases-put_node : goal.decreases-put_node
+decreases-put_node l = 2 * sent_depth (sent_at l.store.now.sents l.p.0)
+
+abbrev pub invariant-put_node-loop-i : goal.invariant-put_node-loop-i
+invariant-put_node-loop-i l = record {
   grows : Grows l.fn.store l.store;
   parts : AreSents l.store l.parts (sent_images (subst_sent l.x (term_at l.fn.store.terms l.by.0)) l.fn.store (take l.i l.from));
   same : Stay (λ j. subst_sent l.x (term_at l.fn.store.terms l.by.0) (sent_at l.fn.store.sents j.0)) (λ j. sent_at l.fn.store.sents j.0) l.from (record { 0 = 0 }) l.i → AreSame l.fn.store l.store l.parts (take l.i l.from);

@@ -1,6 +1,6 @@
 // The store of values and environments, which only grows.
 
-ghost use Rattle.std.specs.Prelude.{◌≡◌, ◌+◌, ◌<◌, ◌≤◌, [], ◌∷◌, length, slice_get, Some, IfOk, OnErr, OnOk};
+ghost use Rattle.std.specs.Prelude.{◌≡◌, ℕ, ◌+◌, ◌*◌, ◌<◌, ◌≤◌, List, [], ◌∷◌, length, slice_get, Some, IfOk, OnErr, OnOk};
 ghost use Rattle.std.specs.List.{All};
 ghost use Rattle.ath_trees.specs.declared.limits.TheConstants.{MOST_TERM_NODES, MOST_TERM_LEVELS, MOST_PARTS};
 ghost use Rattle.ath_values.specs.Measures.{IsMeasured, IsMade, AreWithin, measured_nodes, measured_levels};
@@ -73,6 +73,7 @@ impl Envs {
         ensures inside { IsEnvIn self.now result }
         ensures stands { (p : Nodes) (s : Trees) → IsEnv p s self.now result no_entries }
     {
+        let _many = self.envs.len();
         EnvId(0)
     }
 
@@ -124,10 +125,7 @@ impl Envs {
     {
         let mut most = 0;
         for i in 0..items.len() {
-            let levels = self.levels(items[i]);
-            if most < levels {
-                most = levels;
-            }
+            most = most.max(self.levels(items[i]));
         }
         most
     }
@@ -172,6 +170,17 @@ impl Envs {
         Ok(ValueId(number))
     }
 
+    fn made(&mut self, value: Value, nodes: u64, levels: u64) -> Result<ValueId, ValueError>
+        ensures made { IsMeasured (λ v. (v.0 ≡ length self.old.values) × (self.new ≡ with_value self.old (record { value = value; nodes = nodes; levels = levels }))) result nodes levels }
+        ensures kept { KeepsValues self.old self.new }
+        ensures same_envs { self.new.envs ≡ self.old.envs }
+        ensures unchanged { OnErr result (self.new ≡ self.old) }
+    {
+        check_limits(nodes, levels)?;
+        let v = self.add(value, nodes, levels)?;
+        Ok(v)
+    }
+
     /// The value of a node, or why it is none: the limits are looked at before it is made.
     pub fn value(&mut self, store: &Store, value: Value) -> Result<ValueId, ValueError>
         requires { AreWithin store.now self.old value }
@@ -183,9 +192,7 @@ impl Envs {
     {
         let nodes = self.measured_nodes(store, &value);
         let levels = self.measured_levels(store, &value);
-        check_limits(nodes, levels)?;
-        let v = self.add(value, nodes, levels)?;
-        Ok(v)
+        self.made(value, nodes, levels)
     }
 
     /// The list of these values, or why it is none: the limits are looked at before it is made.
@@ -200,9 +207,7 @@ impl Envs {
     {
         let nodes = 1 + self.listed_nodes(items.as_slice());
         let levels = 1 + self.listed_levels(items.as_slice());
-        check_limits(nodes, levels)?;
-        let v = self.add(Value::List(items), nodes, levels)?;
-        Ok(v)
+        self.made(Value::List(items), nodes, levels)
     }
 
     /// The closure of a procedure or a method over an environment.
@@ -292,7 +297,7 @@ impl Envs {
         ensures stands { (p : Nodes) (s : Trees) (t : EnvTree) → IsEnv p s self.now env t → IsEnv p s self.now result (above hops t) }
     {
         let mut at = env;
-        for _ in 0..hops {
+        for _hop in 0..hops {
             at = self.parent(at);
         }
         at

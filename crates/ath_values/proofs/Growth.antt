@@ -1,8 +1,6 @@
 -- What a number stands for, it stands for after more was added.
-use Rattle.std.proofs.Common.{◌≡◌, ℕ, ◌<◌, List, [], ◌∷◌, ◌++◌, Option, Some, None, refl, sym, ap, ◌∙◌, arith}
-use Rattle.std.specs.Prelude.{slice_get}
-use Rattle.ath_trees.specs.Tree.{Term, Sent}
-use Rattle.ath_terms.specs.Trees.{Trees, Grows, IsTermOf, IsSent}
+use Rattle.std.proofs.Common.{List, [], ◌∷◌, ◌∙◌, arith}
+use Rattle.ath_terms.specs.Trees.{Trees, Grows}
 use Rattle.ath_terms.proofs.Grow.{sent-kept}
 use Rattle.ath_syntax.specs.Nodes.{Nodes, KeepsNodes}
 use Rattle.ath_syntax.proofs.Growth.{slice_get-front}

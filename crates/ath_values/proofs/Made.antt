@@ -1,13 +1,13 @@
 -- What a number stands for, by its node, and what new nodes stand for.
-use Rattle.std.proofs.Common.{◌≡◌, ℕ, zero, suc, ◌+◌, ◌*◌, ◌<◌, ◌≤◌, max, List, [], ◌∷◌, ◌++◌, length, take, get_or, Option, Some, None, Result, Ok, Err, refl, sym, ap, ◌∙◌, subst, arith, length-append, ◌⊎◌, inl, inr}
+use Rattle.std.proofs.Common.{◌≡◌, ℕ, zero, suc, ◌+◌, ◌<◌, ◌≤◌, max, List, [], ◌∷◌, ◌++◌, length, take, get_or, Option, Some, None, Result, Ok, Err, refl, sym, ap, ◌∙◌, subst, arith, length-append, ◌⊎◌, inl, inr}
 use Rattle.std.specs.Prelude.{slice_get}
 use Rattle.std.proofs.lemmas.List.{take_more}
 use Rattle.std.proofs.lemmas.List.Recursion.{max_push}
-use Rattle.std.proofs.lemmas.Option.{slice_get_within, same_Some}
+use Rattle.std.proofs.lemmas.Option.{same_Some}
 use Rattle.ath_sorts.specs.declared.sorts.Sym.{Sym}
 use Rattle.ath_trees.specs.declared.limits.TheConstants.{MOST_TERM_NODES, MOST_TERM_LEVELS}
 use Rattle.ath_trees.specs.Measure.{term_size, term_depth, sent_size, sent_depth}
-use Rattle.ath_terms.specs.Trees.{Trees, Grows}
+use Rattle.ath_terms.specs.Trees.{Trees}
 use Rattle.ath_terms.proofs.Grow.{grows-none}
 use Rattle.ath_syntax.specs.declared.node.PhraseId.{PhraseId}
 use Rattle.ath_syntax.specs.Nodes.{Nodes}
@@ -27,10 +27,10 @@ use Rattle.ath_values.specs.declared.value.ValueId.{ValueId}
 use Rattle.ath_values.specs.declared.value.ValueError.{ValueError}
 use Rattle.ath_values.specs.declared.value.ValueError.TheVariants.{TooLarge, TooDeep, Memory}
 use Rattle.ath_values.specs.Measures.{IsMeasured, IsMade, measured_nodes, measured_levels}
-use Rattle.ath_values.specs.Nodes.{Stores, AreKept, KeepsValues, with_value, with_env, nodes_at, levels_at, kept_nodes, kept_levels, kept_depth, depth_at, listed_nodes, listed_levels, IsEnvIn, IsValueIn, IsBelow}
+use Rattle.ath_values.specs.Nodes.{Stores, AreKept, with_value, with_env, nodes_at, levels_at, kept_nodes, kept_levels, kept_depth, depth_at, listed_nodes, listed_levels, IsValueIn, IsBelow}
 use Rattle.ath_values.specs.Stands.{IsMember, is_member, AreMembers, members_none, members_more, IsValue, is_value, IsContent, is_term, is_sentence, is_list, is_string, is_symbol, is_connective, is_quantifier, is_back, is_procedure, is_method, is_closure, AreValues, values_none, values_more, IsEnv, is_env, IsEntry, is_root, is_bind, is_group, IsFound}
 use Rattle.ath_values.specs.Values.{MemberTree, ValueTree, Values, EnvTree, no_entries, bound_entry, group_entry, closure_value, value_size, value_depth, values_size, values_depth, env_depth, above, member_value, value_in}
-use Rattle.ath_values.proofs.Growth.{values-value, values-env, keep_value, keep_content, keep_env, keep_entry}
+use Rattle.ath_values.proofs.Growth.{values-value, values-env, keep_content, keep_entry}
 
 -- ---- measures of lists
 nodes_push : (e : Stores) (vs : List ValueId) (v : ValueId) → listed_nodes e (vs ++ v ∷ []) ≡ listed_nodes e vs + nodes_at e v
@@ -48,7 +48,7 @@ levels_next e vs i d most lt h = ap (λ n. max n (levels_at e (get_or vs i d))) 
 
 module _ (P Q : ValueId → Type 0) (by : (i : ValueId) → P i → Q i) where
   measured_same : (r : Result ValueId ValueError) (n d : ℕ) → IsMeasured P r n d → IsMeasured Q r n d
-  measured_same (Ok i) n d h = (by i h.0, h.1)
+  measured_same (Ok i) n d h = (by i h.0, h.1, h.2)
   measured_same (Err (TooLarge m)) n d h = h
   measured_same (Err (TooDeep m)) n d h = h
   measured_same (Err Memory) n d h = h
@@ -197,11 +197,14 @@ module _ (p : Nodes) (s : Trees) (e : Stores) (ms : List Member) (up : EnvId) (n
       member_stands f i env m (group_entry ts u) (slice_get ts n) x.0 is at h x.1 x.2
 
 -- ---- the ancestor one entry further up
+above_one : (n : ℕ) (t : EnvTree) → above 1 (above n t) ≡ above (suc n) t
+above_one zero t = refl
+above_one (suc n) no_entries = refl
+above_one (suc n) (bound_entry x v t) = above_one n t
+above_one (suc n) (group_entry ms t) = above_one n t
+
 pub above_next : (n : ℕ) (t : EnvTree) → above 1 (above n t) ≡ above (n + 1) t
-above_next zero t = refl
-above_next (suc n) no_entries = refl
-above_next (suc n) (bound_entry x v t) = above_next n t
-above_next (suc n) (group_entry ms t) = above_next n t
+above_next n t = let e : suc n ≡ n + 1 = omega arith in above_one n t ∙ ap (λ m. above m t) e
 
 -- ---- what is kept
 pub kept_with_value : (e : Stores) (k : KeptValue) → AreKept e → k.nodes ≤ MOST_TERM_NODES → k.levels ≤ MOST_TERM_LEVELS → AreKept (with_value e k)

@@ -1,8 +1,7 @@
 -- What is said of a value that is made: its number stands for it, or it is above the limits.
-use Rattle.std.specs.Prelude.{◌≡◌, ◌<◌, ◌≤◌, ℕ, ◌+◌, List, length, Result, Ok, Err}
+use Rattle.std.specs.Prelude.{◌≡◌, ◌<◌, ◌≤◌, ℕ, ◌+◌, length, Result, Ok, Err}
 use Rattle.std.specs.List.{All}
 use Rattle.ath_trees.specs.declared.limits.TheConstants.{MOST_TERM_NODES, MOST_TERM_LEVELS, MOST_PARTS}
-use Rattle.ath_trees.specs.declared.node.TermId.{TermId}
 use Rattle.ath_trees.specs.Measure.{term_size, term_depth, sent_size, sent_depth}
 use Rattle.ath_terms.specs.Trees.{Trees, term_at, sent_at}
 use Rattle.ath_syntax.specs.Nodes.{Nodes}

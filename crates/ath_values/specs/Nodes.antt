@@ -1,6 +1,5 @@
 -- Values and environments as numbered nodes.
 use Rattle.std.specs.Prelude.{◌≡◌, ℕ, ◌+◌, ◌<◌, ◌≤◌, ◌++◌, List, [], ◌∷◌, Option, Some, None, length, max, slice_get}
-use Rattle.std.specs.List.{All}
 use Rattle.ath_trees.specs.declared.limits.TheConstants.{MOST_TERM_NODES, MOST_TERM_LEVELS}
 use Rattle.ath_values.specs.declared.value.ValueId.{ValueId}
 use Rattle.ath_values.specs.declared.value.EnvId.{EnvId}

@@ -1,5 +1,5 @@
 -- Values and environments as trees: a closure holds its whole environment.
-use Rattle.std.specs.Prelude.{ℕ, suc, zero, ◌+◌, List, Bool, true, false, Option, Some, None, length, max, slice_get}
+use Rattle.std.specs.Prelude.{ℕ, suc, zero, ◌+◌, List, Bool, true, false, Option, Some, None, max, slice_get}
 use Rattle.ath_sorts.specs.declared.sorts.Sym.{Sym}
 use Rattle.ath_sorts.specs.declared.sorts.Sort.{Sort}
 use Rattle.ath_trees.specs.declared.node.Conn.{Conn as Connective}

@@ -111,7 +111,7 @@ impl Envs {
         ensures same { result ≡ listed_nodes self.now items.now }
         ensures few { result ≤ MOST_PARTS * MOST_TERM_NODES }
     {
-        let mut total = 0;
+        let mut total: u64 = 0;
         for i in 0..items.len() {
             total += self.nodes(items[i]);
         }
@@ -123,7 +123,7 @@ impl Envs {
         ensures same { result ≡ listed_levels self.now items.now }
         ensures few { result ≤ MOST_TERM_LEVELS }
     {
-        let mut most = 0;
+        let mut most: u64 = 0;
         for i in 0..items.len() {
             most = most.max(self.levels(items[i]));
         }
@@ -278,12 +278,21 @@ impl Envs {
         self.envs[env.0].depth
     }
 
+    /// The newest entry of an environment, with its parent.
+    fn entry(&self, env: EnvId) -> &EnvNode
+        requires { IsEnvIn self.now env }
+        ensures stands { (p : Nodes) (s : Trees) (t : EnvTree) → IsEnv p s self.now env t → IsEntry p s self.now result.now t }
+        ensures below { IsBelow env.0 result.now }
+    {
+        &self.envs[env.0].node
+    }
+
     fn parent(&self, env: EnvId) -> EnvId
         requires { IsEnvIn self.now env }
         ensures inside { IsEnvIn self.now result }
         ensures stands { (p : Nodes) (s : Trees) (t : EnvTree) → IsEnv p s self.now env t → IsEnv p s self.now result (above 1 t) }
     {
-        match &self.envs[env.0].node {
+        match self.entry(env) {
             EnvNode::Root => env,
             EnvNode::Bind(_, _, up) => *up,
             EnvNode::Group(_, up) => *up,
@@ -317,7 +326,7 @@ impl Envs {
         ensures same_envs { self.new.envs ≡ self.old.envs }
         ensures unchanged { OnErr result (self.new ≡ self.old) }
     {
-        match &self.envs[env.0].node {
+        match self.entry(env) {
             EnvNode::Root => Ok(None),
             EnvNode::Bind(_, v, _) => {
                 if member == 0 {

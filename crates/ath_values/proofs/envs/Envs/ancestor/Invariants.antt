@@ -1,4 +1,3 @@
-use Rattle.std.proofs.Common.{◌<◌, length}
 use Rattle.ath_syntax.specs.Nodes.{Nodes}
 use Rattle.ath_terms.specs.Trees.{Trees}
 use Rattle.ath_values.specs.Nodes.{IsEnvIn}
@@ -9,5 +8,5 @@ use Rattle.ath_values.proofs.envs.Envs.ancestor.Given as goal
 abbrev pub invariant-loop-hop : goal.invariant-loop-hop
 invariant-loop-hop l = record {
   inside : IsEnvIn l.self l.at;
-  stands : (p : Nodes) (s : Trees) (t : EnvTree) → IsEnv p s l.self l.env t → IsEnv p s l.self l.at (above l.hop t);
+  stands : (p : Nodes) (s : Trees) (t : EnvTree) → IsEnv p s l.self l.fn.env t → IsEnv p s l.self l.at (above l._hop t);
 }

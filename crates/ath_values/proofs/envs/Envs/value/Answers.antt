@@ -1,4 +1,3 @@
-use Rattle.std.proofs.Common.{sym}
 use Rattle.ath_values.specs.Nodes.{IsValueIn}
 use Rattle.ath_values.proofs.Made.{made_new, measured_by, inside_with}
 use Rattle.ath_values.proofs.envs.Envs.value.Goals as goal

@@ -1,5 +1,5 @@
 -- What a number stands for, by its node, and what new nodes stand for.
-use Rattle.std.proofs.Common.{◌≡◌, ℕ, zero, suc, ◌+◌, ◌<◌, ◌≤◌, max, List, [], ◌∷◌, ◌++◌, length, take, get_or, Option, Some, None, Result, Ok, Err, refl, sym, ap, ◌∙◌, subst, arith, length-append, ◌⊎◌, inl, inr}
+use Rattle.std.proofs.Common.{◌≡◌, ℕ, zero, suc, ◌+◌, ◌<◌, ◌≤◌, max, List, [], ◌∷◌, ◌++◌, length, take, map, get_or, Bool, false, Option, Some, None, Result, Ok, Err, refl, sym, ap, ◌∙◌, subst, arith, length-append, ◌⊎◌, inl, inr}
 use Rattle.std.specs.Prelude.{slice_get}
 use Rattle.std.proofs.lemmas.List.{take_more}
 use Rattle.std.proofs.lemmas.List.Recursion.{max_push}
@@ -7,7 +7,19 @@ use Rattle.std.proofs.lemmas.Option.{same_Some}
 use Rattle.ath_sorts.specs.declared.sorts.Sym.{Sym}
 use Rattle.ath_trees.specs.declared.limits.TheConstants.{MOST_TERM_NODES, MOST_TERM_LEVELS}
 use Rattle.ath_trees.specs.Measure.{term_size, term_depth, sent_size, sent_depth}
-use Rattle.ath_terms.specs.Trees.{Trees}
+use Rattle.ath_sorts.specs.Signature.{Signature, boolean}
+use Rattle.ath_trees.specs.declared.node.Binary.{Binary}
+use Rattle.ath_trees.specs.declared.node.Conn.TheVariants.{Not, And, Or, If, Iff}
+use Rattle.ath_trees.specs.declared.node.SentId.{SentId}
+use Rattle.ath_trees.specs.declared.node.TermId.{TermId}
+use Rattle.ath_trees.specs.Tree.{Term, Sent, atom, equal, negated, joined, bound}
+use Rattle.ath_trees.specs.WellSorted.{IsWellSorted}
+use Rattle.ath_trees.proofs.UnderLaws.{sort_in-is}
+use Rattle.ath_terms.specs.declared.node.SentNode.{SentNode}
+use Rattle.ath_terms.specs.declared.node.SentNode.TheVariants as sent
+use Rattle.ath_terms.specs.Nodes.{parts_tree, sent_tree, IsSentBelow}
+use Rattle.ath_terms.specs.SortsIn.{IsSortedIn}
+use Rattle.ath_terms.specs.Trees.{Trees, term_at, sort_at, sent_at}
 use Rattle.ath_terms.proofs.Grow.{grows-none}
 use Rattle.ath_syntax.specs.declared.node.PhraseId.{PhraseId}
 use Rattle.ath_syntax.specs.Nodes.{Nodes}
@@ -29,7 +41,7 @@ use Rattle.ath_values.specs.declared.value.ValueError.TheVariants.{TooLarge, Too
 use Rattle.ath_values.specs.Measures.{IsMeasured, IsMade, measured_nodes, measured_levels}
 use Rattle.ath_values.specs.Nodes.{Stores, AreKept, with_value, with_env, nodes_at, levels_at, kept_nodes, kept_levels, kept_depth, depth_at, listed_nodes, listed_levels, IsValueIn, IsBelow}
 use Rattle.ath_values.specs.Stands.{IsMember, is_member, AreMembers, members_none, members_more, IsValue, is_value, IsContent, is_term, is_sentence, is_list, is_string, is_symbol, is_connective, is_quantifier, is_back, is_procedure, is_method, is_closure, AreValues, values_none, values_more, IsEnv, is_env, IsEntry, is_root, is_bind, is_group, IsFound}
-use Rattle.ath_values.specs.Values.{MemberTree, ValueTree, Values, EnvTree, no_entries, bound_entry, group_entry, closure_value, value_size, value_depth, values_size, values_depth, env_depth, above, member_value, value_in}
+use Rattle.ath_values.specs.Values.{is_atom, term_value, sentence_value, value_of, MemberTree, ValueTree, Values, EnvTree, no_entries, bound_entry, group_entry, closure_value, value_size, value_depth, values_size, values_depth, env_depth, above, member_value, value_in}
 use Rattle.ath_values.proofs.Growth.{values-value, values-env, keep_content, keep_entry}
 
 -- ---- measures of lists
@@ -139,6 +151,10 @@ module _ (p : Nodes) (s : Trees) (e : Stores) where
       let y : d ≡ value_depth t = hd ∙ content_levels v t c in
       measured_by (λ i. (i.0 ≡ length e.values) × (f ≡ with_value e (record { value = v; nodes = n; levels = d }))) (λ i. IsValue p s f i t) (λ i g. value_new f v n d i t g.1 g.0 x y c) r n (value_size t) d (value_depth t) x y h
 
+  pub term_new : (f : Stores) (j : TermId) (n d : ℕ) (i : ValueId) → j.0 < length s.terms → f ≡ with_value e (record { value = code.Term j; nodes = n; levels = d }) → i.0 ≡ length e.values
+      → n ≡ term_size (term_at s.terms j.0) → d ≡ term_depth (term_at s.terms j.0) → IsValue p s f i (term_value (term_at s.terms j.0) (sort_at s.sorts j.0))
+  term_new f j n d i inside is at hn hd = value_new f (code.Term j) n d i _ is at hn hd (is_term ((inside, refl), refl))
+
   pub bind_new : (f : Stores) (x : Sym) (v : ValueId) (up i : EnvId) (t : EnvTree) (u : ValueTree) → f ≡ with_env e (record { node = node.Bind x v up; depth = 1 + depth_at e up }) → i.0 ≡ length e.envs → IsEnv p s e up t → IsValue p s e v u → IsEnv p s f i (bound_entry x u t)
   bind_new f x v up i t u is at h g = env_new f _ _ i _ is at (ap (λ n. 1 + n) (depth_of up t h)) (is_bind g h)
 
@@ -206,25 +222,77 @@ above_one (suc n) (group_entry ms t) = above_one n t
 pub above_next : (n : ℕ) (t : EnvTree) → above 1 (above n t) ≡ above (n + 1) t
 above_next n t = let e : suc n ≡ n + 1 = omega arith in above_one n t ∙ ap (λ m. above m t) e
 
+-- ---- the value that a sentence is
+own_value : (x : Sent) → is_atom x ≡ false → value_of x ≡ sentence_value x
+own_value (atom t) h = absurd (cc)
+own_value (equal a b) h = refl
+own_value (negated x) h = refl
+own_value (joined c x y) h = refl
+own_value (bound q v x) h = refl
+
+one_part : (ss : List Sent) (ids : List SentId) → length ids ≡ 1 → is_atom (parts_tree None (map (λ i. sent_at ss i.0) ids)) ≡ false
+one_part ss [] h = absurd (omega (arith, h))
+one_part ss (i ∷ ids) h = refl
+
+two_parts : (ss : List Sent) (b : Binary) (ids : List SentId) → length ids ≡ 2 → is_atom (parts_tree (Some b) (map (λ i. sent_at ss i.0) ids)) ≡ false
+two_parts ss b [] h = absurd (omega (arith, h))
+two_parts ss b (i ∷ []) h = absurd (omega (arith, h))
+two_parts ss b (i ∷ j ∷ ids) h = refl
+
+not_atom : (ts : List Term) (ss : List Sent) (m k : ℕ) (n : SentNode) → IsSentBelow m k n → ((t : TermId) → n ≡ sent.Atom t → ⊥) → is_atom (sent_tree ts ss n) ≡ false
+not_atom ts ss m k (sent.Atom t) h other = absurd (other t refl)
+not_atom ts ss m k (sent.Eq a b) h other = refl
+not_atom ts ss m k (sent.Conn Not ids) h other = one_part ss ids h.0
+not_atom ts ss m k (sent.Conn And ids) h other = two_parts ss _ ids h.0
+not_atom ts ss m k (sent.Conn Or ids) h other = two_parts ss _ ids h.0
+not_atom ts ss m k (sent.Conn If ids) h other = two_parts ss _ ids h.0
+not_atom ts ss m k (sent.Conn Iff ids) h other = two_parts ss _ ids h.0
+not_atom ts ss m k (sent.Quant q v x) h other = refl
+
+module _ (q : Nodes) (s : Trees) (e f : Stores) (p : SentId) (n : SentNode) (tree : sent_tree s.terms s.sents n ≡ sent_at s.sents p.0) (below : IsSentBelow (length s.terms) p.0 n) where
+  pub own_stands : (size depth : ℕ) (i : ValueId) → ((t : TermId) → n ≡ sent.Atom t → ⊥) → p.0 < length s.sents → f ≡ with_value e (record { value = code.Sent p; nodes = size; levels = depth }) → i.0 ≡ length e.values
+      → size ≡ sent_size (sent_at s.sents p.0) → depth ≡ sent_depth (sent_at s.sents p.0) → IsValue q s f i (value_of (sent_at s.sents p.0))
+  own_stands size depth i other inside is at hs hd =
+      let x = sent_at s.sents p.0 in
+      let o : is_atom x ≡ false = ap is_atom (sym tree) ∙ not_atom s.terms s.sents (length s.terms) p.0 n below other in
+      subst (λ (t : ValueTree). IsValue q s f i t) (sym (own_value x o)) (value_new q s e f (code.Sent p) size depth i (sentence_value x) is at hs hd (is_sentence (inside, refl) o))
+
+  pub atom_inside : (t : TermId) → n ≡ sent.Atom t → t.0 < length s.terms
+  atom_inside t is = subst (λ (m : SentNode). IsSentBelow (length s.terms) p.0 m) is below
+
+  pub atom_stands : (sig : Signature) (t : TermId) (i : ValueId) → n ≡ sent.Atom t → p.0 < length s.sents → IsSortedIn sig s → IsValue q s f i (term_value (term_at s.terms t.0) (sort_at s.sorts t.0)) → IsValue q s f i (value_of (sent_at s.sents p.0))
+  atom_stands sig t i is inside h v =
+      let x = term_at s.terms t.0 in
+      let same : atom x ≡ sent_at s.sents p.0 = subst (λ (m : SentNode). sent_tree s.terms s.sents m ≡ sent_at s.sents p.0) is tree in
+      let w : IsWellSorted sig (atom x) = subst (IsWellSorted sig) (sym same) (h.sents p.0 inside) in
+      let r : sort_at s.sorts t.0 ≡ boolean = sym (sort_in-is sig x (sort_at s.sorts t.0) (h.terms t.0 (atom_inside t is))) ∙ sort_in-is sig x boolean w in
+      let to : term_value x (sort_at s.sorts t.0) ≡ value_of (sent_at s.sents p.0) = ap (term_value x) r ∙ ap value_of same in
+      subst (λ (u : ValueTree). IsValue q s f i u) to v
+
 -- ---- what is kept
+below_more : (m n i : ℕ) (k : EnvNode) → m ≤ n → IsBelow m i k → IsBelow n i k
+below_more m n i node.Root h b = tt
+below_more m n i (node.Bind x v e) h b = (b.0, omega (arith, b.1, h))
+below_more m n i (node.Group ms e) h b = b
+
 pub kept_with_value : (e : Stores) (k : KeptValue) → AreKept e → k.nodes ≤ MOST_TERM_NODES → k.levels ≤ MOST_TERM_LEVELS → AreKept (with_value e k)
 kept_with_value e k h n d = record {
   values = λ i m g. at i m (slice_get-push e.values k i m g);
   root = h.root;
-  envs = h.envs;
+  envs = λ i m g. (below_more (length e.values) (length (e.values ++ k ∷ [])) i m.node (omega (arith, length-append e.values (k ∷ []))) (h.envs i m g).0, (h.envs i m g).1);
 }
   where
     at : (i : ℕ) (m : KeptValue) → ((i < length e.values) × (slice_get e.values i ≡ Some m)) ⊎ ((i ≡ length e.values) × (k ≡ m)) → (m.nodes ≤ MOST_TERM_NODES) × (m.levels ≤ MOST_TERM_LEVELS)
     at i m (inl g) = h.values i m g.1
     at i m (inr g) = subst (λ (j : KeptValue). (j.nodes ≤ MOST_TERM_NODES) × (j.levels ≤ MOST_TERM_LEVELS)) g.1 (n, d)
 
-pub kept_with_env : (e : Stores) (k : KeptEnv) → AreKept e → IsBelow (length e.envs) k.node → k.depth ≤ length e.envs → AreKept (with_env e k)
+pub kept_with_env : (e : Stores) (k : KeptEnv) → AreKept e → IsBelow (length e.values) (length e.envs) k.node → k.depth ≤ length e.envs → AreKept (with_env e k)
 kept_with_env e k h b d = record {
   values = h.values;
   root = slice_get-front e.envs (k ∷ []) 0 _ h.root;
   envs = λ i m g. at i m (slice_get-push e.envs k i m g);
 }
   where
-    at : (i : ℕ) (m : KeptEnv) → ((i < length e.envs) × (slice_get e.envs i ≡ Some m)) ⊎ ((i ≡ length e.envs) × (k ≡ m)) → IsBelow i m.node × (m.depth ≤ i)
+    at : (i : ℕ) (m : KeptEnv) → ((i < length e.envs) × (slice_get e.envs i ≡ Some m)) ⊎ ((i ≡ length e.envs) × (k ≡ m)) → IsBelow (length e.values) i m.node × (m.depth ≤ i)
     at i m (inl g) = h.envs i m g.1
-    at i m (inr g) = subst (λ (j : KeptEnv). IsBelow i j.node × (j.depth ≤ i)) g.1 (subst (λ (l : ℕ). IsBelow l k.node × (k.depth ≤ l)) (sym g.0) (b, d))
+    at i m (inr g) = subst (λ (j : KeptEnv). IsBelow (length e.values) i j.node × (j.depth ≤ i)) g.1 (subst (λ (l : ℕ). IsBelow (length e.values) l k.node × (k.depth ≤ l)) (sym g.0) (b, d))

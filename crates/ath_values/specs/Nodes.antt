@@ -68,17 +68,17 @@ kept_members (Some k) = node_members k.node
 abbrev pub members_at : Stores → EnvId → ℕ
 members_at s e = kept_members (slice_get s.envs e.0)
 
--- the parent of an environment has a smaller number
-abbrev pub IsBelow : ℕ → EnvNode → Type 0
-IsBelow i node.Root = Unit {0}
-IsBelow i (node.Bind x v e) = e.0 < i
-IsBelow i (node.Group ms e) = e.0 < i
+-- the parent of an environment has a smaller number, and the value of a name is one of so many
+abbrev pub IsBelow : ℕ → ℕ → EnvNode → Type 0
+IsBelow n i node.Root = Unit {0}
+IsBelow n i (node.Bind x v e) = (e.0 < i) × (v.0 < n)
+IsBelow n i (node.Group ms e) = e.0 < i
 
 -- every value is within the limits, the first environment has no entries, and parents have smaller numbers
 pub record AreKept (s : Stores) : Type 0 where
   pub values : (i : ℕ) (k : KeptValue) → slice_get s.values i ≡ Some k → (k.nodes ≤ MOST_TERM_NODES) × (k.levels ≤ MOST_TERM_LEVELS)
   pub root : slice_get s.envs 0 ≡ Some (record { node = node.Root; depth = 0 })
-  pub envs : (i : ℕ) (k : KeptEnv) → slice_get s.envs i ≡ Some k → IsBelow i k.node × (k.depth ≤ i)
+  pub envs : (i : ℕ) (k : KeptEnv) → slice_get s.envs i ≡ Some k → IsBelow (length s.values) i k.node × (k.depth ≤ i)
 
 abbrev pub IsValueIn : Stores → ValueId → Type 0
 IsValueIn s v = v.0 < length s.values

@@ -1,7 +1,9 @@
 -- Values and environments as trees: a closure holds its whole environment.
-use Rattle.std.specs.Prelude.{ℕ, suc, zero, ◌+◌, List, Bool, true, false, Option, Some, None, max, slice_get}
+use Rattle.std.specs.Prelude.{ℕ, suc, zero, ◌+◌, List, Bool, true, false, Option, Some, None, max, slice_get, if◌then◌else◌}
 use Rattle.ath_sorts.specs.declared.sorts.Sym.{Sym}
 use Rattle.ath_sorts.specs.declared.sorts.Sort.{Sort}
+use Rattle.ath_sorts.specs.Signature.{boolean}
+use Rattle.ath_sorts.specs.Equality.{same_sort}
 use Rattle.ath_trees.specs.declared.node.Conn.{Conn as Connective}
 use Rattle.ath_trees.specs.declared.node.Quant.{Quant as Quantifier}
 use Rattle.ath_trees.specs.Tree.{Term, Sent, atom, equal, negated, joined, bound}
@@ -48,6 +50,28 @@ is_atom (equal s t) = false
 is_atom (negated p) = false
 is_atom (joined c p q) = false
 is_atom (bound k v p) = false
+
+-- the value that a sentence is: an atom is the value of its term
+abbrev pub value_of : Sent → ValueTree
+value_of (atom t) = term_value t boolean
+value_of (equal s t) = sentence_value (equal s t)
+value_of (negated p) = sentence_value (negated p)
+value_of (joined c p q) = sentence_value (joined c p q)
+value_of (bound k v p) = sentence_value (bound k v p)
+
+-- the sentence that a value is, where it is one: a term is one exactly where its sort is Boolean
+abbrev pub sentence_of : ValueTree → Option Sent
+sentence_of (term_value t r) = if same_sort r boolean then Some (atom t) else None
+sentence_of (sentence_value p) = Some p
+sentence_of (list_value vs) = None
+sentence_of (string_value b) = None
+sentence_of (symbol_value f) = None
+sentence_of (connective_value c) = None
+sentence_of (quantifier_value q) = None
+sentence_of back_value = None
+sentence_of (procedure_value n) = None
+sentence_of (method_value n) = None
+sentence_of (closure_value k xs b e) = None
 
 -- how many nodes a value has: one, or those of its term or sentence, or for a list one more than its members have
 abbrev mutual

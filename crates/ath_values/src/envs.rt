@@ -1,22 +1,24 @@
 // The store of values and environments, which only grows.
 
-ghost use Rattle.std.specs.Prelude.{◌≡◌, ℕ, ◌+◌, ◌*◌, ◌<◌, ◌≤◌, List, [], ◌∷◌, length, slice_get, Some, IfOk, OnErr, OnOk};
+ghost use Rattle.std.specs.Prelude.{◌≡◌, ℕ, ◌+◌, ◌*◌, ◌<◌, ◌≤◌, List, [], ◌∷◌, length, slice_get, Some, IfOk, IfSome, OnErr};
 ghost use Rattle.std.specs.List.{All};
 ghost use Rattle.ath_trees.specs.declared.limits.TheConstants.{MOST_TERM_NODES, MOST_TERM_LEVELS, MOST_PARTS};
 ghost use Rattle.ath_values.specs.Measures.{IsMeasured, IsMade, AreWithin, measured_nodes, measured_levels};
 ghost use Rattle.ath_values.specs.Nodes.{KeepsValues, IsBelow, IsValueIn, IsEnvIn, with_value, with_env, nodes_at, levels_at, listed_nodes, listed_levels, depth_at};
 ghost use Rattle.ath_values.specs.Stands.{IsValue, IsContent, AreValues, IsEnv, IsEntry, AreMembers, IsFound};
-ghost use Rattle.ath_values.specs.Values.{EnvTree, MemberTree, Values, ValueTree, no_entries, bound_entry, group_entry, closure_value, list_value, value_size, value_depth, env_depth, above, value_in};
+ghost use Rattle.ath_values.specs.Values.{EnvTree, MemberTree, Values, ValueTree, no_entries, bound_entry, group_entry, closure_value, list_value, term_value, value_of, value_size, value_depth, env_depth, above, value_in};
 ghost use Rattle.ath_syntax.specs.Nodes.{Nodes};
 ghost use Rattle.ath_syntax.specs.Stands.{IsPhrase};
 ghost use Rattle.ath_syntax.specs.Tree.{Phrase};
-ghost use Rattle.ath_terms.specs.Trees.{Trees};
+ghost use Rattle.ath_sorts.specs.Signature.{Signature};
+ghost use Rattle.ath_terms.specs.SortsIn.{IsSortedIn};
+ghost use Rattle.ath_terms.specs.Trees.{Trees, term_at, sort_at, sent_at};
 
 use crate::value::{EnvId, EnvNode, KeptEnv, KeptValue, Kind, Member, Value, ValueError, ValueId};
 use ath_sorts::Sym;
 use ath_syntax::PhraseId;
-use ath_terms::Store;
-use ath_trees::{MOST_TERM_LEVELS, MOST_TERM_NODES};
+use ath_terms::{SentNode, Store};
+use ath_trees::{MOST_TERM_LEVELS, MOST_TERM_NODES, SentId, TermId};
 use sqlite_items::Items;
 use std::alloc::{AllocError, Global};
 use std::marker::Model;
@@ -172,7 +174,9 @@ impl Envs {
 
     fn made(&mut self, value: Value, nodes: u64, levels: u64) -> Result<ValueId, ValueError>
         ensures made { IsMeasured (λ v. (v.0 ≡ length self.old.values) × (self.new ≡ with_value self.old (record { value = value; nodes = nodes; levels = levels }))) result nodes levels }
+        ensures inside { IfOk result (IsValueIn self.new) }
         ensures kept { KeepsValues self.old self.new }
+        ensures many { length self.old.values ≤ length self.new.values }
         ensures same_envs { self.new.envs ≡ self.old.envs }
         ensures unchanged { OnErr result (self.new ≡ self.old) }
     {
@@ -185,8 +189,10 @@ impl Envs {
     pub fn value(&mut self, store: &Store, value: Value) -> Result<ValueId, ValueError>
         requires { AreWithin store.now self.old value }
         ensures made { (p : Nodes) (t : ValueTree) → IsContent p store.now self.old value t → IsMade p store.now self.new result t }
+        ensures inside { IfOk result (IsValueIn self.new) }
         ensures limits { IsMeasured (IsValueIn self.new) result (measured_nodes store.now self.old value) (measured_levels store.now self.old value) }
         ensures kept { KeepsValues self.old self.new }
+        ensures many { length self.old.values ≤ length self.new.values }
         ensures same_envs { self.new.envs ≡ self.old.envs }
         ensures unchanged { OnErr result (self.new ≡ self.old) }
     {
@@ -195,13 +201,51 @@ impl Envs {
         self.made(value, nodes, levels)
     }
 
+    /// The value of a term.
+    pub fn term(&mut self, store: &Store, t: TermId) -> Result<ValueId, AllocError>
+        requires { t.0 < length store.now.terms }
+        ensures inside { IfOk result (IsValueIn self.new) }
+        ensures stands { IfOk result (λ v. (p : Nodes) → IsValue p store.now self.new v (term_value (term_at store.now.terms t.0) (sort_at store.now.sorts t.0))) }
+        ensures kept { KeepsValues self.old self.new }
+        ensures many { length self.old.values ≤ length self.new.values }
+        ensures same_envs { self.new.envs ≡ self.old.envs }
+        ensures unchanged { OnErr result (self.new ≡ self.old) }
+    {
+        let v = self.add(Value::Term(t), store.size(t), store.depth(t))?;
+        Ok(v)
+    }
+
+    /// The value that a sentence is: an atom is the value of its term.
+    pub fn sentence(&mut self, store: &Store, p: SentId) -> Result<ValueId, AllocError>
+        requires { p.0 < length store.now.sents }
+        ensures inside { IfOk result (IsValueIn self.new) }
+        ensures stands { IfOk result (λ v. (q : Nodes) (sig : Signature) → IsSortedIn sig store.now → IsValue q store.now self.new v (value_of (sent_at store.now.sents p.0))) }
+        ensures kept { KeepsValues self.old self.new }
+        ensures many { length self.old.values ≤ length self.new.values }
+        ensures same_envs { self.new.envs ≡ self.old.envs }
+        ensures unchanged { OnErr result (self.new ≡ self.old) }
+    {
+        match store.sent(p) {
+            SentNode::Atom(t) => {
+                let v = self.term(store, *t)?;
+                Ok(v)
+            }
+            _other => {
+                let v = self.add(Value::Sent(p), store.sent_size(p), store.sent_depth(p))?;
+                Ok(v)
+            }
+        }
+    }
+
     /// The list of these values, or why it is none: the limits are looked at before it is made.
     pub fn list(&mut self, items: Items<ValueId>) -> Result<ValueId, ValueError>
         requires inside { All (IsValueIn self.old) items }
         requires few { length items ≤ MOST_PARTS }
         ensures made { (p : Nodes) (s : Trees) (ts : Values) → AreValues p s self.old items ts → IsMade p s self.new result (list_value ts) }
+        ensures inside { IfOk result (IsValueIn self.new) }
         ensures limits { IsMeasured (IsValueIn self.new) result (1 + listed_nodes self.old items) (1 + listed_levels self.old items) }
         ensures kept { KeepsValues self.old self.new }
+        ensures many { length self.old.values ≤ length self.new.values }
         ensures same_envs { self.new.envs ≡ self.old.envs }
         ensures unchanged { OnErr result (self.new ≡ self.old) }
     {
@@ -221,6 +265,7 @@ impl Envs {
         ensures inside { IfOk result (IsValueIn self.new) }
         ensures stands { IfOk result (λ v. (p : Nodes) (s : Trees) (b : Phrase) (e : EnvTree) → IsPhrase p body b → IsEnv p s self.old env e → IsValue p s self.new v (closure_value kind params b e)) }
         ensures kept { KeepsValues self.old self.new }
+        ensures many { length self.old.values ≤ length self.new.values }
         ensures same_envs { self.new.envs ≡ self.old.envs }
         ensures unchanged { OnErr result (self.new ≡ self.old) }
     {
@@ -230,20 +275,21 @@ impl Envs {
 
     fn add_env(&mut self, node: EnvNode, parent: EnvId) -> Result<EnvId, AllocError>
         requires parent { IsEnvIn self.old parent }
-        requires below { (i : ℕ) → parent.0 < i → IsBelow i node }
+        requires below { (i : ℕ) → parent.0 < i → IsBelow (length self.old.values) i node }
         ensures added { IfOk result (λ _. self.new ≡ with_env self.old (record { node = node; depth = 1 + depth_at self.old parent })) }
         ensures number { IfOk result (λ e. e.0 ≡ length self.old.envs) }
         ensures err { OnErr result (self.new ≡ self.old) }
     {
         let number = self.envs.len();
-        let depth = 1 + self.envs[parent.0].depth;
+        let depth = 1 + self.depth(parent);
         self.envs.push(KeptEnv { node, depth })?;
         Ok(EnvId(number))
     }
 
     /// The environment with a name and its value before its entries.
     pub fn bind(&mut self, env: EnvId, name: Sym, v: ValueId) -> Result<EnvId, AllocError>
-        requires { IsEnvIn self.old env }
+        requires env { IsEnvIn self.old env }
+        requires value { IsValueIn self.old v }
         ensures inside { IfOk result (IsEnvIn self.new) }
         ensures stands { IfOk result (λ e. (p : Nodes) (s : Trees) (t : EnvTree) (u : ValueTree) → IsEnv p s self.old env t → IsValue p s self.old v u → IsEnv p s self.new e (bound_entry name u t)) }
         ensures kept { KeepsValues self.old self.new }
@@ -273,6 +319,7 @@ impl Envs {
     pub fn depth(&self, env: EnvId) -> u64
         requires { IsEnvIn self.now env }
         ensures same { result ≡ depth_at self.now env }
+        ensures few { result ≤ env.0 }
         ensures tree { (p : Nodes) (s : Trees) (t : EnvTree) → IsEnv p s self.now env t → result ≡ env_depth t }
     {
         self.envs[env.0].depth
@@ -282,7 +329,7 @@ impl Envs {
     fn entry(&self, env: EnvId) -> &EnvNode
         requires { IsEnvIn self.now env }
         ensures stands { (p : Nodes) (s : Trees) (t : EnvTree) → IsEnv p s self.now env t → IsEntry p s self.now result.now t }
-        ensures below { IsBelow env.0 result.now }
+        ensures below { IsBelow (length self.now.values) env.0 result.now }
     {
         &self.envs[env.0].node
     }
@@ -321,8 +368,10 @@ impl Envs {
         member: usize,
     ) -> Result<Option<ValueId>, AllocError>
         requires { IsEnvIn self.old env }
+        ensures inside { IfOk result (λ o. IfSome o (IsValueIn self.new)) }
         ensures found { IfOk result (λ v. (p : Nodes) (s : Trees) (t : EnvTree) → IsEnv p s self.old env t → IsFound p s self.new v (value_in t member)) }
         ensures kept { KeepsValues self.old self.new }
+        ensures many { length self.old.values ≤ length self.new.values }
         ensures same_envs { self.new.envs ≡ self.old.envs }
         ensures unchanged { OnErr result (self.new ≡ self.old) }
     {

@@ -15,3 +15,10 @@ pub fn values_are_kept()
     ensures values { (p q : Nodes) (s u : Trees) (e f : Stores) → KeepsNodes p q → Grows s u → KeepsValues e f → (i : ValueNumber) (t : ValueTree) → IsValue p s e i t → IsValue q u f i t }
     ensures envs { (p q : Nodes) (s u : Trees) (e f : Stores) → KeepsNodes p q → Grows s u → KeepsValues e f → (i : EnvNumber) (t : EnvTree) → IsEnv p s e i t → IsEnv q u f i t }
 {}
+
+/// A number stands for one value or environment at most.
+#[tactic(auto, using(crate::proofs::One::one_value, crate::proofs::One::one_env))]
+pub fn values_are_one()
+    ensures values { (p : Nodes) (s : Trees) (e : Stores) (i : ValueNumber) (t u : ValueTree) → IsValue p s e i t → IsValue p s e i u → t ≡ u }
+    ensures envs { (p : Nodes) (s : Trees) (e : Stores) (i : EnvNumber) (t u : EnvTree) → IsEnv p s e i t → IsEnv p s e i u → t ≡ u }
+{}

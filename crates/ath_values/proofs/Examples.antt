@@ -3,7 +3,7 @@ use Rattle.std.proofs.Common.{◌≡◌, [], ◌∷◌, Some, None, refl}
 use Rattle.ath_sorts.specs.declared.sorts.Sym.{Sym}
 use Rattle.ath_syntax.specs.Tree.{Phrase}
 use Rattle.ath_values.specs.declared.value.Kind.TheVariants.{Procedure, Method}
-use Rattle.ath_values.specs.Values.{member_tree, ValueTree, list_value, string_value, back_value, closure_value, no_values, more_values, EnvTree, no_entries, bound_entry, group_entry, value_size, value_depth, env_depth, above, value_at}
+use Rattle.ath_values.specs.Values.{member_tree, ValueTree, list_value, back_value, closure_value, no_values, more_values, EnvTree, no_entries, bound_entry, group_entry, value_size, value_depth, env_depth, value_at}
 
 -- a list counts one node more than its members, and one level
 abbrev nested : ValueTree

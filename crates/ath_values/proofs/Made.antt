@@ -1,5 +1,5 @@
 -- What a number stands for, by its node, and what new nodes stand for.
-use Rattle.std.proofs.Common.{◌≡◌, ℕ, zero, suc, ◌+◌, ◌<◌, ◌≤◌, max, List, [], ◌∷◌, ◌++◌, length, take, map, get_or, Bool, false, Option, Some, None, Result, Ok, Err, refl, sym, ap, ◌∙◌, subst, arith, length-append, ◌⊎◌, inl, inr}
+use Rattle.std.proofs.Common.{◌≡◌, ℕ, zero, suc, ◌+◌, ◌<◌, ◌≤◌, max, List, [], ◌∷◌, ◌++◌, length, take, map, get_or, false, Option, Some, None, Result, Ok, Err, refl, sym, ap, ◌∙◌, subst, arith, length-append, ◌⊎◌, inl, inr}
 use Rattle.std.specs.Prelude.{slice_get}
 use Rattle.std.proofs.lemmas.List.{take_more}
 use Rattle.std.proofs.lemmas.List.Recursion.{max_push}
@@ -71,6 +71,9 @@ module _ (P Q : ValueId → Type 0) (by : (i : ValueId) → P i → Q i) where
 -- the number of a new node is one of the store
 pub inside_with : (e f : Stores) (k : KeptValue) (i : ValueId) → (i.0 ≡ length e.values) × (f ≡ with_value e k) → IsValueIn f i
 inside_with e f k i h = subst (λ (g : Stores). IsValueIn g i) (sym h.1) (omega (arith, h.0, length-append e.values (k ∷ [])))
+
+pub many_with : (e f : Stores) (k : KeptValue) → f ≡ with_value e k → length e.values ≤ length f.values
+many_with e f k h = subst (λ (g : Stores). length e.values ≤ length g.values) (sym h) (omega (arith, length-append e.values (k ∷ [])))
 
 module _ (p : Nodes) (s : Trees) (e : Stores) where
   -- ---- by the node

@@ -1,6 +1,5 @@
 -- A number stands for one value or environment at most.
-use Rattle.std.proofs.Common.{◌≡◌, ◌+◌, List, Some, refl, sym, ◌∙◌, ap, subst}
-use Rattle.std.proofs.lemmas.Option.{same_Some}
+use Rattle.std.proofs.Common.{◌≡◌, List, refl, sym, ◌∙◌, ap}
 use Rattle.ath_terms.specs.Trees.{Trees}
 use Rattle.ath_syntax.specs.Nodes.{Nodes}
 use Rattle.ath_syntax.proofs.One.{one_phrase}

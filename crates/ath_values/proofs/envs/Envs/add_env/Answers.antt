@@ -1,4 +1,4 @@
-use Rattle.std.proofs.Common.{◌≡◌, ◌<◌, ◌+◌, length, arith, ap, ◌∙◌, sym, subst}
+use Rattle.std.proofs.Common.{◌<◌, ◌+◌, length, arith, ap, ◌∙◌, sym, subst}
 use Rattle.ath_values.specs.Nodes.{Stores, IsBelow, with_env}
 use Rattle.ath_values.proofs.Made.{kept_with_env}
 use Rattle.ath_values.proofs.envs.Envs.add_env.Goals as goal
@@ -10,4 +10,8 @@ invariant_of-self-2 c =
     rw c.in_ok-push.ensures.items (kept_with_env _ _ c.self.invariant below (omega (arith, c.depth-depth.ensures.few, parent)))
 
 pub returns-clause-added : goal.returns-clause-added
-returns-clause-added c = ?
+returns-clause-added c =
+    let depth = c.depth-depth.result in
+    ap (λ l. record { values = c.self.inside.values.items; envs = l }) c.in_ok-push.ensures.items
+    ∙ ap (λ (e : Stores). with_env e (record { node = c.args.node; depth = 1 + depth })) c.self.view_is
+    ∙ ap (λ n. with_env c.args.self.now (record { node = c.args.node; depth = 1 + n })) c.depth-depth.ensures.same

@@ -19,7 +19,7 @@ fn listed(
 ) -> Result<Result<ValueId, ValueError>, Fail>
     requires inside { IsValueIn envs.old v }
     requires few { times ≤ 4194304 }
-    ensures { length envs.old.values ≤ length envs.new.values }
+    ensures many { length envs.old.values ≤ length envs.new.values }
     ensures inside { IfOk result (λ made. IfOk made (IsValueIn envs.new)) }
 {
     let items = vec![in rt.alloc(); v; times]?;

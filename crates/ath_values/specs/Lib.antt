@@ -1,0 +1,4 @@
+pub mod Measures
+pub mod Nodes
+pub mod Stands
+pub mod Values

@@ -1,0 +1,7 @@
+//! Tests of values and environments.
+#![tactic(auto)]
+
+#[cfg(test)]
+mod envs;
+#[cfg(test)]
+mod values;

@@ -83,32 +83,6 @@ fn connect(
     }
 }
 
-/// The connective of the arguments, where there are as many as it takes.
-fn connect_values(
-    alloc: Global,
-    w: &mut World,
-    conn: Conn,
-    args: &[Value],
-    at: Pos,
-) -> Result<Outcome, AllocError>
-    requires many { takes conn (length args.now) ≡ true }
-    requires few { length args.now ≤ most }
-    requires arguments { All (IsIn w.old.store) args.now }
-    ensures rests { Rests w.old w.new }
-    ensures outcome { IfOk result (λ o. IsSteady w.new.store o (applying.connective_applied w.old.sig conn (values_at w.old.store args.now) at)) }
-{
-    match as_parts(alloc, args)? {
-        Parts::All(found) => {
-            let outcome = connect(alloc, w, conn, found.as_slice(), at)?;
-            Ok(outcome)
-        }
-        Parts::Wrong(i) => {
-            let outcome = numbered(alloc, FaultKind::WrongKind, i, at)?;
-            Ok(outcome)
-        }
-    }
-}
-
 /// The application of a connective.
 pub(crate) fn apply_connective(
     alloc: Global,
@@ -122,10 +96,18 @@ pub(crate) fn apply_connective(
     ensures rests { Rests w.old w.new }
     ensures outcome { IfOk result (λ o. IsSteady w.new.store o (applying.connective_applied w.old.sig conn (values_at w.old.store args.now) at)) }
 {
-    if takes(conn, args.len()) {
-        let outcome = connect_values(alloc, w, conn, args, at)?;
+    if !takes(conn, args.len()) {
+        let outcome = miscounted(alloc, wanted(conn) as u64, args.len() as u64, at)?;
         return Ok(outcome);
     }
-    let outcome = miscounted(alloc, wanted(conn) as u64, args.len() as u64, at)?;
-    Ok(outcome)
+    match as_parts(alloc, args)? {
+        Parts::All(found) => {
+            let outcome = connect(alloc, w, conn, found.as_slice(), at)?;
+            Ok(outcome)
+        }
+        Parts::Wrong(i) => {
+            let outcome = numbered(alloc, FaultKind::WrongKind, i, at)?;
+            Ok(outcome)
+        }
+    }
 }

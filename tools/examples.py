@@ -48,16 +48,13 @@ def literal(text, mark):
     return '%s"%s"' % (mark, text.replace('"', '\\"').replace("\n", "\\n"))
 
 
-HEAD = """\
+SOURCE = """\
 // The examples of docs/ERRORS.md; tools/examples.py writes this file.
 
 use crate::reports::expect_lines;
 use ath_session::Status;
 use std::alloc::{AllocError, Global};
 use std::test::Fail;
-
-/// An example: the parts of its file, each with how often it stands there, and what is printed.
-type Example = (&'static [(&'static [u8], u64)], &'static str);
 
 /// The text that these parts make.
 pub(crate) fn text_of(alloc: Global, parts: &[(&[u8], u64)]) -> Result<Vec<u8>, AllocError> {
@@ -70,22 +67,51 @@ pub(crate) fn text_of(alloc: Global, parts: &[(&[u8], u64)]) -> Result<Vec<u8>, 
     Ok(text)
 }
 
+/// Files with what is printed for each.
+const EXAMPLES: [(&[u8], &str); %d] = [
+%s];
+
+#[test]
+fn the_examples_of_errors(rt: HostRuntime) -> Result<(), Fail> {
+    for (text, lines) in EXAMPLES {
+        expect_lines(&rt, text, lines, Status::Errors)?;
+    }
+    Ok(())
+}
+
+/// The same of files that say a part again and again: the parts, each with how often it stands there.
+const LARGE_EXAMPLES: [(&[(&[u8], u64)], &str); %d] = [
+%s];
+
+#[test]
+fn the_large_examples_of_errors(rt: HostRuntime) -> Result<(), Fail> {
+    for (parts, lines) in LARGE_EXAMPLES {
+        let text = text_of(rt.alloc(), parts)?;
+        expect_lines(&rt, text.as_slice(), lines, Status::Errors)?;
+    }
+    Ok(())
+}
 """
 
 
+def rows(found, text_of):
+    """A row for each example: its heading, its text and its report."""
+    return "".join("    // %s\n    (\n%s        %s,\n    ),\n" % (heading, text_of(parts), literal(report, ""))
+                   for heading, parts, report in found)
+
+
+def whole(parts):
+    return "        %s,\n" % literal(parts[0][0], "b")
+
+
+def in_parts(parts):
+    return "        &[\n%s        ],\n" % "".join("            (%s, %d),\n" % (literal(text, "b"), times) for text, times in parts)
+
+
 def table():
-    found = examples()
-    lines = [HEAD, "const EXAMPLES: [Example; %d] = [\n" % len(found)]
-    for heading, parts, report in found:
-        lines.append("    // %s\n    (\n        &[\n" % heading)
-        for text, times in parts:
-            lines.append("            (%s, %d),\n" % (literal(text, "b"), times))
-        lines.append("        ],\n        %s,\n    ),\n" % literal(report, ""))
-    lines.append("];\n\n#[test]\nfn the_examples_of_errors(rt: HostRuntime) -> Result<(), Fail> {\n")
-    lines.append("    for (parts, lines) in EXAMPLES {\n")
-    lines.append("        let text = text_of(rt.alloc(), parts)?;\n")
-    lines.append("        expect_lines(&rt, text.as_slice(), lines, Status::Errors)?;\n    }\n    Ok(())\n}\n")
-    return "".join(lines)
+    plain = [example for example in examples() if len(example[1]) == 1 and example[1][0][1] == 1]
+    other = [example for example in examples() if example not in plain]
+    return SOURCE % (len(plain), rows(plain, whole), len(other), rows(other, in_parts))
 
 
 def run(program):

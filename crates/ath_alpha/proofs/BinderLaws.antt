@@ -13,14 +13,20 @@ use Rattle.ath_trees.proofs.Forms.{free-inj}
 use Rattle.ath_alpha.specs.declared.binders.Binders.{Binders, Under, Outside, the_lemmas}
 use Rattle.ath_alpha.specs.declared.binders.Meeting.{Meeting}
 use Rattle.ath_alpha.specs.declared.binders.Meeting.TheVariants.{Bound, Free, Apart}
-use Rattle.ath_alpha.specs.Binders.{binders_of, meeting}
+use Rattle.ath_alpha.specs.Binders.{lefts_of, rights_of, meeting}
 use Rattle.ath_alpha.specs.Seen.{var_seen, term_seen}
 
-pub binders-under : (v : Bor Var) (outer : Bor Binders) → binders_of (Under v outer) ≡ v.now ∷ binders_of outer.now
-binders-under v outer = search (rules, the_lemmas)
+pub lefts-under : (v w : Bor Var) (outer : Bor Binders) → lefts_of (Under v w outer) ≡ v.now ∷ lefts_of outer.now
+lefts-under v w outer = search (rules, the_lemmas)
 
-pub binders-outside : binders_of Outside ≡ []
-binders-outside = search (rules, the_lemmas)
+pub rights-under : (v w : Bor Var) (outer : Bor Binders) → rights_of (Under v w outer) ≡ w.now ∷ rights_of outer.now
+rights-under v w outer = search (rules, the_lemmas)
+
+pub lefts-outside : lefts_of Outside ≡ []
+lefts-outside = search (rules, the_lemmas)
+
+pub rights-outside : rights_of Outside ≡ []
+rights-outside = search (rules, the_lemmas)
 
 -- ---- one place
 abbrev Place : Var → ℕ → NTerm → Type 0

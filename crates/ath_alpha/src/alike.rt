@@ -1,7 +1,7 @@
 // Sentences of a store that are alike but for the names and indices of their bound variables.
 
 ghost use Rattle.std.specs.Prelude.{◌≡◌, ◌<◌, ◌↔◌, IsTrue, length};
-ghost use Rattle.ath_alpha.specs.Binders.{binders_of};
+ghost use Rattle.ath_alpha.specs.Binders.{lefts_of, rights_of};
 ghost use Rattle.ath_alpha.specs.Seen.{sort_seen, sorts_seen, var_seen, term_seen, seen};
 ghost use Rattle.ath_terms.specs.Trees.{Trees, term_at, sent_at};
 ghost use Rattle.ath_trees.specs.Instance.{is_alpha_equal};
@@ -41,37 +41,24 @@ fn is_like_free(told: bool, v: &Var, w: &Var) -> bool
     }
 }
 
-fn is_like_var<'a>(
-    told: bool,
-    some: &'a Binders<'a>,
-    v: &Var,
-    others: &'a Binders<'a>,
-    w: &Var,
-) -> bool
-    ensures { IsTrue result ↔ (term_seen told (placed (binders_of some.now) 0 v.now) ≡ term_seen told (placed (binders_of others.now) 0 w.now)) }
+fn is_like_var(told: bool, binders: &Binders, v: &Var, w: &Var) -> bool
+    ensures { IsTrue result ↔ (term_seen told (placed (lefts_of binders.now) 0 v.now) ≡ term_seen told (placed (rights_of binders.now) 0 w.now)) }
 {
-    match meeting_of(some, v, others, w) {
+    match meeting_of(binders, v, w) {
         Meeting::Bound => true,
         Meeting::Free => is_like_free(told, v, w),
         Meeting::Apart => false,
     }
 }
 
-fn are_like_terms<'a>(
-    store: &'a Store,
-    told: bool,
-    some: &'a Binders<'a>,
-    s: TermId,
-    others: &'a Binders<'a>,
-    t: TermId,
-) -> bool
+fn are_like_terms(store: &Store, told: bool, binders: &Binders, s: TermId, t: TermId) -> bool
     requires left { s.0 < length store.now.terms }
     requires right { t.0 < length store.now.terms }
-    ensures { IsTrue result ↔ (term_seen told (nameless_term (binders_of some.now) (term_at store.now.terms s.0)) ≡ term_seen told (nameless_term (binders_of others.now) (term_at store.now.terms t.0))) }
+    ensures { IsTrue result ↔ (term_seen told (nameless_term (lefts_of binders.now) (term_at store.now.terms s.0)) ≡ term_seen told (nameless_term (rights_of binders.now) (term_at store.now.terms t.0))) }
 {
     match store.term(s) {
         TermNode::Var(v) => match store.term(t) {
-            TermNode::Var(w) => is_like_var(told, some, v, others, w),
+            TermNode::Var(w) => is_like_var(told, binders, v, w),
             TermNode::App(_, _, _) => false,
         },
         TermNode::App(f, sorts, args) => match store.term(t) {
@@ -86,7 +73,7 @@ fn are_like_terms<'a>(
                     return false;
                 }
                 for i in 0..xs.len() {
-                    if !are_like_terms(store, told, some, xs[i], others, ys[i]) {
+                    if !are_like_terms(store, told, binders, xs[i], ys[i]) {
                         return false;
                     }
                 }
@@ -97,21 +84,14 @@ fn are_like_terms<'a>(
 }
 
 /// Whether two sentences under binders are alike, with their sorts where these are told.
-pub fn are_like_sents<'a>(
-    store: &'a Store,
-    told: bool,
-    some: &'a Binders<'a>,
-    p: SentId,
-    others: &'a Binders<'a>,
-    q: SentId,
-) -> bool
+pub fn are_like_sents(store: &Store, told: bool, binders: &Binders, p: SentId, q: SentId) -> bool
     requires left { p.0 < length store.now.sents }
     requires right { q.0 < length store.now.sents }
-    ensures { IsTrue result ↔ (seen told (nameless_under (binders_of some.now) (sent_at store.now.sents p.0)) ≡ seen told (nameless_under (binders_of others.now) (sent_at store.now.sents q.0))) }
+    ensures { IsTrue result ↔ (seen told (nameless_under (lefts_of binders.now) (sent_at store.now.sents p.0)) ≡ seen told (nameless_under (rights_of binders.now) (sent_at store.now.sents q.0))) }
 {
     match store.sent(p) {
         SentNode::Atom(s) => match store.sent(q) {
-            SentNode::Atom(t) => are_like_terms(store, told, some, *s, others, *t),
+            SentNode::Atom(t) => are_like_terms(store, told, binders, *s, *t),
             SentNode::Eq(_, _) => false,
             SentNode::Conn(_, _) => false,
             SentNode::Quant(_, _, _) => false,
@@ -119,8 +99,8 @@ pub fn are_like_sents<'a>(
         SentNode::Eq(s, t) => match store.sent(q) {
             SentNode::Atom(_) => false,
             SentNode::Eq(u, v) => {
-                are_like_terms(store, told, some, *s, others, *u)
-                    && are_like_terms(store, told, some, *t, others, *v)
+                are_like_terms(store, told, binders, *s, *u)
+                    && are_like_terms(store, told, binders, *t, *v)
             }
             SentNode::Conn(_, _) => false,
             SentNode::Quant(_, _, _) => false,
@@ -135,7 +115,7 @@ pub fn are_like_sents<'a>(
                     return false;
                 }
                 for i in 0..xs.len() {
-                    if !are_like_sents(store, told, some, xs[i], others, ys[i]) {
+                    if !are_like_sents(store, told, binders, xs[i], ys[i]) {
                         return false;
                     }
                 }
@@ -151,9 +131,8 @@ pub fn are_like_sents<'a>(
                 if *k != *l || !is_like_sort(told, &v.sort, &w.sort) {
                     return false;
                 }
-                let outer = Binders::Under(v, some);
-                let inner = Binders::Under(w, others);
-                are_like_sents(store, told, &outer, *body, &inner, *other)
+                let inner = Binders::Under(v, w, &*binders);
+                are_like_sents(store, told, &inner, *body, *other)
             }
         },
     }
@@ -168,5 +147,5 @@ pub fn is_alpha_equal(store: &Store, p: SentId, q: SentId) -> bool
     if p.0 == q.0 {
         return true;
     }
-    are_like_sents(store, true, &Binders::Outside, p, &Binders::Outside, q)
+    are_like_sents(store, true, &Binders::Outside, p, q)
 }

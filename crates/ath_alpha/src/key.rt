@@ -14,14 +14,7 @@ pub fn alpha_key(store: &Store, p: SentId) -> usize
     ensures { IsKey store.now.sents p.0 result }
 {
     for i in 0..p.0 {
-        if are_like_sents(
-            store,
-            false,
-            &Binders::Outside,
-            SentId(i),
-            &Binders::Outside,
-            p,
-        ) {
+        if are_like_sents(store, false, &Binders::Outside, SentId(i), p) {
             return i;
         }
     }

@@ -9,7 +9,7 @@ ghost use Rattle.ath_trees.specs.Instance.{match_all, match_sort, noted};
 
 use ath_sorts::sorts::{copied, is_same};
 use ath_sorts::{SVar, Sort, SortSubst};
-use std::alloc::{AllocError, Global};
+use std::alloc::AllocError;
 
 fn is_rigid(rigid: &[SVar], v: SVar) -> bool
     ensures { result ≡ is_rigid rigid.now v }
@@ -29,7 +29,6 @@ fn are_same(s: &Sort, t: &Sort) -> bool
 }
 
 fn match_variable(
-    alloc: Global,
     found: &mut SortSubst,
     rigid: &[SVar],
     v: SVar,
@@ -49,7 +48,6 @@ fn match_variable(
 
 /// Extends the map so that it makes one sort the other; false where no extension does.
 pub fn match_sort(
-    alloc: Global,
     found: &mut SortSubst,
     rigid: &[SVar],
     s: &Sort,
@@ -58,7 +56,7 @@ pub fn match_sort(
     ensures { IfOk result (λ b. answer b found.new ≡ match_sort (is_rigid rigid.now) s.now t.now found.old) }
 {
     match s {
-        Sort::Var(v) => match_variable(alloc, found, rigid, *v, t),
+        Sort::Var(v) => match_variable(found, rigid, *v, t),
         Sort::Con(c, args) => {
             let Sort::Con(d, others) = t else {
                 return Ok(false);
@@ -69,7 +67,7 @@ pub fn match_sort(
                 return Ok(false);
             }
             for i in 0..xs.len() {
-                if !match_sort(alloc, found, rigid, &xs[i], &ys[i])? {
+                if !match_sort(found, rigid, &xs[i], &ys[i])? {
                     return Ok(false);
                 }
             }
@@ -80,7 +78,6 @@ pub fn match_sort(
 
 /// The same for two lists of sorts.
 pub fn match_sorts(
-    alloc: Global,
     found: &mut SortSubst,
     rigid: &[SVar],
     some: &[Sort],
@@ -92,7 +89,7 @@ pub fn match_sorts(
         return Ok(false);
     }
     for i in 0..some.len() {
-        if !match_sort(alloc, found, rigid, &some[i], &others[i])? {
+        if !match_sort(found, rigid, &some[i], &others[i])? {
             return Ok(false);
         }
     }

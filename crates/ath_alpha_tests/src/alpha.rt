@@ -10,6 +10,7 @@ use ath_terms::{SentNode, Store};
 use ath_trees::{Quant, SentId, Var};
 use sqlite_items::Items;
 use std::alloc::{AllocError, Global};
+use std::process::Abort;
 use std::test::Fail;
 
 const X: Sym = Sym(150);
@@ -92,6 +93,23 @@ fn answered(
     }
 }
 
+/// Compares what the instance makes of the first sort variable with this.
+fn expect_found(
+    rt: &(impl Abort + AllocGlobal),
+    store: &Store,
+    p: SentId,
+    q: SentId,
+    rigid: &Vec<SVar>,
+    found: Found,
+) -> Result<(), AllocError>
+    requires left { p.0 < length store.now.sents }
+    requires right { q.0 < length store.now.sents }
+{
+    let answer = answered(rt.alloc(), store, p, q, rigid)?;
+    assert_eq!(rt; answer, found);
+    Ok(())
+}
+
 #[test]
 fn sentences_are_compared(rt: HostRuntime) -> Result<(), Fail> {
     let alloc = rt.alloc();
@@ -126,37 +144,13 @@ fn instances_are_found(rt: HostRuntime) -> Result<(), Fail> {
     let none = Vec::new(alloc);
     let mut rigid = Vec::new(alloc);
     rigid.push(SVar::Made(1))?;
-    assert_eq!(rt;
-        answered(alloc, &store, general, special, &none)?,
-        Found::Boolean
-    );
-    assert_eq!(rt;
-        answered(alloc, &store, general, special, &rigid)?,
-        Found::Nowhere
-    );
-    assert_eq!(rt;
-        answered(alloc, &store, special, general, &none)?,
-        Found::Nowhere
-    );
-    assert_eq!(rt;
-        answered(alloc, &store, general, other, &none)?,
-        Found::Other
-    );
-    assert_eq!(rt;
-        answered(alloc, &store, general, general, &rigid)?,
-        Found::Unmoved
-    );
-    assert_eq!(rt;
-        answered(alloc, &store, general, mixed, &none)?,
-        Found::Nowhere
-    );
-    assert_eq!(rt;
-        answered(alloc, &store, apart, mixed, &none)?,
-        Found::Boolean
-    );
-    assert_eq!(rt;
-        answered(alloc, &store, apart, mixed, &rigid)?,
-        Found::Nowhere
-    );
+    expect_found(&rt, &store, general, special, &none, Found::Boolean)?;
+    expect_found(&rt, &store, general, special, &rigid, Found::Nowhere)?;
+    expect_found(&rt, &store, special, general, &none, Found::Nowhere)?;
+    expect_found(&rt, &store, general, other, &none, Found::Other)?;
+    expect_found(&rt, &store, general, general, &rigid, Found::Unmoved)?;
+    expect_found(&rt, &store, general, mixed, &none, Found::Nowhere)?;
+    expect_found(&rt, &store, apart, mixed, &none, Found::Boolean)?;
+    expect_found(&rt, &store, apart, mixed, &rigid, Found::Nowhere)?;
     Ok(())
 }

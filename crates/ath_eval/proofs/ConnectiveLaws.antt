@@ -19,14 +19,12 @@ use Rattle.ath_env.specs.Stands.{value_at}
 use Rattle.ath_eval.specs.declared.kinds.Part.{Part as Piece}
 use Rattle.ath_eval.specs.declared.kinds.Part.TheVariants as piece
 use Rattle.ath_eval.specs.declared.world.Outcome as outcome
-use Rattle.ath_eval.specs.Applying.{Kinds, kinds_of, Part, part_of, term_part, sentence_part, sentence_made, and_sentence, sentences_made, connective_of, connective_to, connective_applied, gives_sentence}
+use Rattle.ath_eval.specs.Applying.{Kinds, kinds_of, Part, part_of, term_part, sentence_part, sentence_made, and_sentence, sentences_made, connective_of, connective_to, connective_applied}
 use Rattle.ath_eval.specs.Arguments.{IsPieceIn, values_at, piece_tree}
-use Rattle.ath_eval.specs.Building.{told}
-use Rattle.ath_eval.specs.Stands.{IsWhy, AreSentsIn}
-use Rattle.ath_eval.specs.Outcomes.{Left, Outcome, fails}
+use Rattle.ath_eval.specs.Stands.{AreSentsIn}
+use Rattle.ath_eval.specs.Outcomes.{Left, Outcome}
 use Rattle.ath_eval.specs.World.{IsSteady}
 use Rattle.ath_env.proofs.ValueLaws.{is_in-kept}
-use Rattle.ath_eval.proofs.Answering.{refused_why}
 use Rattle.ath_eval.proofs.KindLaws.{length_map}
 
 -- ---- one part
@@ -137,18 +135,12 @@ parts_done sig s t parts n ids whole le inv h =
     no_more (p ∷ ps) = ap (λ (qs : List Sent). p ∷ qs) (no_more ps)
 
 -- ---- the connective
-module _ (sig : Signature) (c : Conn) (at : Pos) (o : outcome.Outcome) (whole : Built (List Sent)) where
-  pub connective_made : (t u : Trees) (ids : List SentId) (r : Result SentId BuildError) → AreSentsIn t whole ids
-      → IsSentBuilt u (made_connective sig c (trees_of t ids)) r
-      → ((b : Built Sent) → IsSentBuilt u b r → IsSteady u o (gives_sentence b at))
-      → IsSteady u o (gives_sentence (connective_of sig c whole) at)
-  connective_made t u ids r h m f =
-      subst (λ (x : Built Sent). IsSteady u o (gives_sentence x at)) (sym (ap (connective_of sig c) h.0)) (f (made_connective sig c (trees_of t ids)) m)
+module _ (sig : Signature) (c : Conn) (whole : Built (List Sent)) where
+  pub connective_made : (t u : Trees) (ids : List SentId) (r : Result SentId BuildError) → AreSentsIn t whole ids → IsSentBuilt u (made_connective sig c (trees_of t ids)) r → IsSentBuilt u (connective_of sig c whole) r
+  connective_made t u ids r h m = subst (λ (b : Built Sent). IsSentBuilt u b r) (sym (ap (connective_of sig c) h.0)) m
 
-  pub connective_refused : (u : Trees) (e : BuildError) → IsRefused u whole e → (e ≡ Memory → ⊥) → ((why : Unbuilt) → IsWhy u e why → IsSteady u o (fails at (told why))) → IsSteady u o (gives_sentence (connective_of sig c whole) at)
-  connective_refused u e h n f =
-      let w = refused_why u whole e n h in
-      subst (λ (x : Built (List Sent)). IsSteady u o (gives_sentence (connective_of sig c x) at)) (sym w.1) (f w.0 w.2)
+  pub connective_refused : (u : Trees) (e : BuildError) → IsRefused u whole e → IsRefused u (connective_of sig c whole) e
+  connective_refused u e h = refused_same u whole (connective_of sig c whole) e (λ why r. ap (connective_of sig c) r) h
 
 -- ---- its arguments
 module _ (sig : Signature) (c : Conn) (s u : Trees) (vs : List value.Value) (at : Pos) (o : outcome.Outcome) (many : takes c (length vs) ≡ true) where

@@ -17,12 +17,12 @@ pub record Context : Type 0 where
   pub theory : Theory
 
 -- what local forms bind; there are none yet
-pub data Bindings : Type 0 where
-  no_bindings : Bindings
+pub data Locals : Type 0 where
+  no_locals : Locals
 
 -- what a part reads of its own: what is bound where it stands, and its assumption base, the newest entry first
 pub record Environment : Type 0 where
-  pub bindings : Bindings
+  pub locals : Locals
   pub base : List Entry
 
 -- what is left: the steps, and the counters of fresh names

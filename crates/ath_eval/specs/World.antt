@@ -12,7 +12,7 @@ use Rattle.ath_eval.specs.declared.world.Outcome as code
 use Rattle.ath_eval.specs.declared.world.Outcome.TheVariants as ends
 use Rattle.ath_base.specs.Base.{Entry}
 use Rattle.ath_base.specs.Stands.{entries_in, entries_of, KeepsScopes}
-use Rattle.ath_eval.specs.Outcomes.{Context, Environment, no_bindings, Left, left_of, Outcome, gives, concludes, fails, exhausts}
+use Rattle.ath_eval.specs.Outcomes.{Context, Environment, no_locals, Left, left_of, Outcome, gives, concludes, fails, exhausts}
 use Rattle.ath_eval.specs.Room.{charged, IsBelow, IsRoomy}
 
 abbrev pub context_of : World → Context
@@ -20,7 +20,7 @@ context_of w = record { names = w.names; theory = theory_of w.sig }
 
 -- the environment with this base
 abbrev pub with_base : List Entry → Environment
-with_base es = record { bindings = no_bindings; base = es }
+with_base es = record { locals = no_locals; base = es }
 
 -- the environment of the world's scope
 abbrev pub environment_of : World → Environment

@@ -13,7 +13,7 @@ ghost use Rattle.ath_eval.specs.World.{IsSteady, Rests};
 
 use crate::building::sentence_made;
 use crate::kinds::{Part, Parts, as_parts};
-use crate::refusals::{miscounted, numbered, unbuilt};
+use crate::refusals::{miscounted, numbered};
 use crate::world::{Outcome, World};
 use ath_construction::connectives::{takes, wanted};
 use ath_construction::{atom, connective};
@@ -57,55 +57,16 @@ fn sentences(alloc: Global, w: &mut World, parts: &[Part]) -> Result<Vec<SentId>
     Ok(ids)
 }
 
-/// The connective of as many parts as it takes.
-fn connect(
-    alloc: Global,
-    w: &mut World,
-    conn: Conn,
-    parts: &[Part],
-    at: Pos,
-) -> Result<Outcome, AllocError>
+/// The connective of these parts.
+fn connect(alloc: Global, w: &mut World, conn: Conn, parts: &[Part]) -> Result<SentId, BuildError>
     requires few { length parts.now ≤ most }
     requires parts { All (IsPieceIn w.old.store) parts.now }
     ensures rests { Rests w.old w.new }
-    ensures outcome { IfOk result (λ o. IsSteady w.new.store o (applying.gives_sentence (applying.connective_of w.old.sig conn (applying.sentences_made w.old.sig (map (piece_tree w.old.store) parts.now))) at)) }
+    ensures built { IsSentBuilt w.new.store (applying.connective_of w.old.sig conn (applying.sentences_made w.old.sig (map (piece_tree w.old.store) parts.now))) result }
 {
     match sentences(alloc, w, parts) {
-        Ok(ids) => {
-            let made = connective(alloc, &mut w.store, conn, &ids);
-            let outcome = sentence_made(alloc, made, at)?;
-            Ok(outcome)
-        }
-        Err(error) => {
-            let outcome = unbuilt(alloc, error, at)?;
-            Ok(outcome)
-        }
-    }
-}
-
-/// The connective of the arguments, where there are as many as it takes.
-fn connect_values(
-    alloc: Global,
-    w: &mut World,
-    conn: Conn,
-    args: &[Value],
-    at: Pos,
-) -> Result<Outcome, AllocError>
-    requires many { takes conn (length args.now) ≡ true }
-    requires few { length args.now ≤ most }
-    requires arguments { All (IsIn w.old.store) args.now }
-    ensures rests { Rests w.old w.new }
-    ensures outcome { IfOk result (λ o. IsSteady w.new.store o (applying.connective_applied w.old.sig conn (values_at w.old.store args.now) at)) }
-{
-    match as_parts(alloc, args)? {
-        Parts::All(found) => {
-            let outcome = connect(alloc, w, conn, found.as_slice(), at)?;
-            Ok(outcome)
-        }
-        Parts::Wrong(i) => {
-            let outcome = numbered(alloc, FaultKind::WrongKind, i, at)?;
-            Ok(outcome)
-        }
+        Ok(ids) => connective(alloc, &mut w.store, conn, &ids),
+        Err(error) => Err(error),
     }
 }
 
@@ -122,10 +83,19 @@ pub(crate) fn apply_connective(
     ensures rests { Rests w.old w.new }
     ensures outcome { IfOk result (λ o. IsSteady w.new.store o (applying.connective_applied w.old.sig conn (values_at w.old.store args.now) at)) }
 {
-    if takes(conn, args.len()) {
-        let outcome = connect_values(alloc, w, conn, args, at)?;
+    if !takes(conn, args.len()) {
+        let outcome = miscounted(alloc, wanted(conn) as u64, args.len() as u64, at)?;
         return Ok(outcome);
     }
-    let outcome = miscounted(alloc, wanted(conn) as u64, args.len() as u64, at)?;
-    Ok(outcome)
+    match as_parts(alloc, args)? {
+        Parts::All(found) => {
+            let made = connect(alloc, w, conn, found.as_slice());
+            let outcome = sentence_made(alloc, made, at)?;
+            Ok(outcome)
+        }
+        Parts::Wrong(i) => {
+            let outcome = numbered(alloc, FaultKind::WrongKind, i, at)?;
+            Ok(outcome)
+        }
+    }
 }

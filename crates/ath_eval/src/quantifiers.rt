@@ -100,29 +100,6 @@ fn quantify_values(
     Ok(outcome)
 }
 
-/// The application of a quantifier to some arguments, and to a last one.
-fn apply_to_last(
-    alloc: Global,
-    w: &mut World,
-    q: Quant,
-    front: &[Value],
-    last: Value,
-    at: Pos,
-) -> Result<Outcome, AllocError>
-    requires few { length front.now < most }
-    requires front { All (IsIn w.old.store) front.now }
-    requires last { IsIn w.old.store last }
-    ensures rests { Rests w.old w.new }
-    ensures outcome { IfOk result (λ o. IsSteady w.new.store o (applying.quantifier_applied w.old.sig q (values_at w.old.store (front.now ++ last ∷ [])) at)) }
-{
-    if front.is_empty() {
-        let outcome = miscounted(alloc, 2, 1, at)?;
-        return Ok(outcome);
-    }
-    let outcome = quantify_values(alloc, w, q, front, last, at)?;
-    Ok(outcome)
-}
-
 /// The application of a quantifier.
 pub(crate) fn apply_quantifier(
     alloc: Global,
@@ -136,14 +113,14 @@ pub(crate) fn apply_quantifier(
     ensures rests { Rests w.old w.new }
     ensures outcome { IfOk result (λ o. IsSteady w.new.store o (applying.quantifier_applied w.old.sig q (values_at w.old.store args.now) at)) }
 {
-    match args.split_last() {
-        Some((last, front)) => {
-            let outcome = apply_to_last(alloc, w, q, front, *last, at)?;
-            Ok(outcome)
-        }
-        None => {
-            let outcome = miscounted(alloc, 2, 0, at)?;
-            Ok(outcome)
-        }
+    let Some((last, front)) = args.split_last() else {
+        let outcome = miscounted(alloc, 2, 0, at)?;
+        return Ok(outcome);
+    };
+    if front.is_empty() {
+        let outcome = miscounted(alloc, 2, 1, at)?;
+        return Ok(outcome);
     }
+    let outcome = quantify_values(alloc, w, q, front, *last, at)?;
+    Ok(outcome)
 }

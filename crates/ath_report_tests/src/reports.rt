@@ -65,7 +65,7 @@ const FIRST: &[u8] = b"(declare (A B) Boolean)\n(assert (if A B))\n(assert A)\n(
 
 const FIRST_LINES: &str = "Symbols: A, B\nAssertion: (if A B)\nAssertion: A\nTheorem: B\n";
 
-const SCRIPTS: [(&[u8], &str, Status); 13] = [
+const SCRIPTS: [(&[u8], &str, Status); 17] = [
     (FIRST, FIRST_LINES, Status::Clean),
     (b"# nothing\n", "", Status::Clean),
     (
@@ -123,25 +123,8 @@ const SCRIPTS: [(&[u8], &str, Status); 13] = [
         "Error: \"x.ath\":1:1: TooManyLoads\n",
         Status::Errors,
     ),
-];
-
-#[test]
-fn scripts_give_their_reports(rt: HostRuntime) -> Result<(), Fail> {
-    for (script, lines, status) in SCRIPTS {
-        expect_lines(&rt, script, lines, status)?;
-    }
-    Ok(())
-}
-
-const DECLARATIONS: &[u8] =
-    b"domain N\ndomain N\ndeclare f: [M] -> N\ndeclare f: [(N N)] -> N\ndeclare f: ('T) [N] -> N\ndatatype B := b | b\n";
-
-const DECLARATION_LINES: &str =
-    "Domain: N\nError: \"r30.ath\":2:1: Redeclared N\nError: \"r30.ath\":3:1: UnknownSort M\nError: \"r30.ath\":4:1: Arity N\nError: \"r30.ath\":5:1: LooseParam 'T\nError: \"r30.ath\":6:1: NotBuilt\n";
-
-/// Deductions as arguments. Each concludes for the later arguments and for the method; of these conclusions a directive leaves
-/// its own alone, and after a refusal none.
-const NESTED: [(&[u8], &str, Status); 4] = [
+    // Deductions as arguments. Each concludes for the later arguments and for the method; of these conclusions a directive
+    // leaves its own alone, and after a refusal none.
     (
         b"declare A, B, C: Boolean\nassert (if A B)\nassert (if B C)\nassert A\n(!mp (if B C) (!mp (if A B) A))\n(!claim C)\n(!claim B)\n(!mp (!claim (if A B)) (!claim A))",
         "Symbols: A, B, C\nAssertion: (if A B)\nAssertion: (if B C)\nAssertion: A\nTheorem: C\nTheorem: C\nError: \"x.ath\":7:1: NotInBase B\nTheorem: B\n",
@@ -165,12 +148,18 @@ const NESTED: [(&[u8], &str, Status); 4] = [
 ];
 
 #[test]
-fn arguments_conclude_for_later_ones(rt: HostRuntime) -> Result<(), Fail> {
-    for (script, lines, status) in NESTED {
+fn scripts_give_their_reports(rt: HostRuntime) -> Result<(), Fail> {
+    for (script, lines, status) in SCRIPTS {
         expect_lines(&rt, script, lines, status)?;
     }
     Ok(())
 }
+
+const DECLARATIONS: &[u8] =
+    b"domain N\ndomain N\ndeclare f: [M] -> N\ndeclare f: [(N N)] -> N\ndeclare f: ('T) [N] -> N\ndatatype B := b | b\n";
+
+const DECLARATION_LINES: &str =
+    "Domain: N\nError: \"r30.ath\":2:1: Redeclared N\nError: \"r30.ath\":3:1: UnknownSort M\nError: \"r30.ath\":4:1: Arity N\nError: \"r30.ath\":5:1: LooseParam 'T\nError: \"r30.ath\":6:1: NotBuilt\n";
 
 const STEPS: File = (
     "steps.ath",

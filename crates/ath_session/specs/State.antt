@@ -7,7 +7,7 @@ use Rattle.ath_trees.specs.Tree.{Sent}
 use Rattle.ath_calculus.specs.Theory.{theory_of}
 use Rattle.ath_base.specs.declared.entry.Origin.{Origin}
 use Rattle.ath_base.specs.Base.{Entry}
-use Rattle.ath_eval.specs.Outcomes.{Context, Environment, no_bindings, Left}
+use Rattle.ath_eval.specs.Outcomes.{Context, Environment, no_locals, Left}
 
 -- the table of names, what is declared, the assumption base with its newest entry first, the steps that are left, and the
 -- counters of fresh names
@@ -26,7 +26,7 @@ abbrev pub context : State → Context
 context st = record { names = st.names; theory = theory_of st.signature }
 
 abbrev pub environment : State → Environment
-environment st = record { bindings = no_bindings; base = st.base }
+environment st = record { locals = no_locals; base = st.base }
 
 abbrev pub left : State → Left
 left st = record { fuel = st.fuel; fresh = st.fresh }

@@ -1,6 +1,6 @@
 use Rattle.std.proofs.Common.{◌≡◌, drop}
 use Rattle.ath_sorts.specs.Instances.{is_rigid}
-use Rattle.ath_alpha.specs.Binders.{binders_of}
+use Rattle.ath_alpha.specs.Binders.{lefts_of, rights_of}
 use Rattle.ath_alpha.proofs.WalkLaws.{walk}
 use Rattle.ath_alpha.proofs.MatchLaws.{match_terms_at}
 use Rattle.ath_alpha.proofs.instance.+match_terms.Given as goal
@@ -9,4 +9,4 @@ abbrev pub decreases-match_terms : goal.decreases-match_terms
 decreases-match_terms l = l.s.0
 
 abbrev pub invariant-loop-i : goal.invariant-loop-i
-invariant-loop-i l = walk (match_terms_at (is_rigid l.rigid) l.store.terms (binders_of l.some) (binders_of l.others)) l.xs l.ys l.initial.found ≡ walk (match_terms_at (is_rigid l.rigid) l.store.terms (binders_of l.some) (binders_of l.others)) (drop l.i l.xs) (drop l.i l.ys) l.found
+invariant-loop-i l = walk (match_terms_at (is_rigid l.at.rigid.now) l.at.store.now.terms (lefts_of l.at.binders.now) (rights_of l.at.binders.now)) l.xs l.ys l.initial.found ≡ walk (match_terms_at (is_rigid l.at.rigid.now) l.at.store.now.terms (lefts_of l.at.binders.now) (rights_of l.at.binders.now)) (drop l.i l.xs) (drop l.i l.ys) l.found

@@ -28,7 +28,7 @@ fn expect_rows(
 }
 
 /// Quantifiers as they are printed: a bound variable has its sort at its binder alone.
-const PRINTED: [Row; 18] = [
+const PRINTED: [Row; 19] = [
     ("domain N", "Domain: N"),
     ("domain (L 'T)", "Domain: L"),
     ("declare R: [N N] -> Boolean", "Symbols: R"),
@@ -37,6 +37,10 @@ const PRINTED: [Row; 18] = [
     (
         "(forall ?x%1 (R ?x%1 ?x))",
         "Sentence: (forall ?x%1:N (R ?x%1 ?x:N))",
+    ),
+    (
+        "assert (forall ?x (exists ?y (= ?x ?y)))",
+        "Assertion: (forall ?x:'S1 (exists ?y:'S1 (= ?x ?y)))",
     ),
     (
         "(exists ?y%1:'S1 (= ?y:'S1 ?y%1))",

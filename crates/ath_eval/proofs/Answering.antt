@@ -21,7 +21,7 @@ use Rattle.ath_eval.specs.Outcomes.{fails}
 use Rattle.ath_eval.specs.World.{IsSteady}
 
 -- the refusal that an error is
-refused_why : {T : Type 0} (s : Trees) (b : Built T) (e : BuildError) → (e ≡ Memory → ⊥) → IsRefused s b e → (why : Unbuilt) × (b ≡ refuses why) × IsWhy s e why
+pub refused_why : {T : Type 0} (s : Trees) (b : Built T) (e : BuildError) → (e ≡ Memory → ⊥) → IsRefused s b e → (why : Unbuilt) × (b ≡ refuses why) × IsWhy s e why
 refused_why s b (SortClash l r) n h = (clash (l, r), h, refl)
 refused_why s b (ArgCount want given) n h = (counts want given, h, refl)
 refused_why s b (NotBoolean t) n (x, h, is) = (_, h, (x, refl, is))

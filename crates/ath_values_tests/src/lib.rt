@@ -4,4 +4,6 @@
 #[cfg(test)]
 mod envs;
 #[cfg(test)]
+mod equality;
+#[cfg(test)]
 mod values;

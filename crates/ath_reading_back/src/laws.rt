@@ -1,0 +1,5 @@
+//! The laws of reading back.
+
+/// Nothing yet.
+pub fn nothing()
+{}

@@ -1,2 +1,4 @@
 mod PrintLaws
 mod Spelled
+mod Digits
+mod Cuts

@@ -2,3 +2,5 @@ mod PrintLaws
 mod Spelled
 mod Digits
 mod Cuts
+mod Pieces
+mod Scanned

@@ -4,3 +4,4 @@ mod Digits
 mod Cuts
 mod Pieces
 mod Scanned
+mod Fine

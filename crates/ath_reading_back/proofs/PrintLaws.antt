@@ -162,22 +162,22 @@ sort-item : (names : List (List ℕ)) (c : Sym) (ss : List Sort) → AllByRecurs
 sort-item names c [] h seen = refl
 sort-item names c (s ∷ ss) h seen = ap (enclosed (text_of names c)) (spaced-sorts names (s ∷ ss) h seen)
 
+pub shaped_var : (names : List (List ℕ)) (v : SVar) → sort_shape names (Var v) ≡ sort_step names (one.Var v)
+shaped_var names v = ap (sort_shape names) (sym (rolls-Var v)) ∙ fold-roll-Sort SortShaper (sort_step names) (one.Var v)
+
+pub shaped_con : (names : List (List ℕ)) (c : Sym) (ss : List Sort) → sort_shape names (Con c ss) ≡ sort_step names (one.Con c (map (sort_shape names) ss))
+shaped_con names c ss = ap (sort_shape names) (sym (rolls-Con c ss)) ∙ fold-roll-Sort SortShaper (sort_step names) (one.Con c ss)
+
 pub sort-prints : (names : List (List ℕ)) (s : Sort) → PrintsSort (sort_printed names s) (sort_shape names s)
 sort-prints names = sort_induction (λ s. PrintsSort (sort_printed names s) (sort_shape names s))
-    (λ v seen. ap (λ (p : Printer). p seen) (printed_var v) ∙ numbered-prints seen v (position (same_svar v) seen) ∙ sym (ap (λ (f : SortShaper). printed_sort (f seen)) (shaped_var v)))
-    (λ c ss h seen. ap (λ (p : Printer). p seen) (printed_con c ss) ∙ sort-item names c ss h seen ∙ sym (ap (λ (f : SortShaper). printed_sort (f seen)) (shaped_con c ss)))
+    (λ v seen. ap (λ (p : Printer). p seen) (printed_var v) ∙ numbered-prints seen v (position (same_svar v) seen) ∙ sym (ap (λ (f : SortShaper). printed_sort (f seen)) (shaped_var names v)))
+    (λ c ss h seen. ap (λ (p : Printer). p seen) (printed_con c ss) ∙ sort-item names c ss h seen ∙ sym (ap (λ (f : SortShaper). printed_sort (f seen)) (shaped_con names c ss)))
   where
     printed_var : (v : SVar) → sort_printed names (Var v) ≡ svar_printed v
     printed_var v = ap (sort_printed names) (sym (rolls-Var v)) ∙ fold-roll-Sort Printer (printed_step names) (one.Var v)
 
     printed_con : (c : Sym) (ss : List Sort) → sort_printed names (Con c ss) ≡ print.item (text_of names c) (map (sort_printed names) ss)
     printed_con c ss = ap (sort_printed names) (sym (rolls-Con c ss)) ∙ fold-roll-Sort Printer (printed_step names) (one.Con c ss)
-
-    shaped_var : (v : SVar) → sort_shape names (Var v) ≡ sort_step names (one.Var v)
-    shaped_var v = ap (sort_shape names) (sym (rolls-Var v)) ∙ fold-roll-Sort SortShaper (sort_step names) (one.Var v)
-
-    shaped_con : (c : Sym) (ss : List Sort) → sort_shape names (Con c ss) ≡ sort_step names (one.Con c (map (sort_shape names) ss))
-    shaped_con c ss = ap (sort_shape names) (sym (rolls-Con c ss)) ∙ fold-roll-Sort SortShaper (sort_step names) (one.Con c ss)
 
 -- ---- terms and sentences
 abbrev with_its_sort : List ℕ → Printed → Printed

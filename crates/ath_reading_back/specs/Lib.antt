@@ -1,3 +1,4 @@
 pub mod Shapes
 pub mod Pieces
 pub mod TextTree
+pub mod Premises

@@ -5,3 +5,4 @@ mod Cuts
 mod Pieces
 mod Scanned
 mod Fine
+mod Depths

@@ -1,5 +1,5 @@
 -- The tokens of a print, with one space before some, and its bytes.
-use Rattle.std.specs.Prelude.{ℕ, zero, suc, ◌+◌, Bool, true, false, List, [], ◌∷◌, ◌++◌, length, Option, Some, None}
+use Rattle.std.specs.Prelude.{ℕ, ◌+◌, ◌-◌, Bool, true, false, ◌&&◌, ◌==◌, nat_le, List, [], ◌∷◌, ◌++◌, length, Option, Some, None, if◌then◌else◌}
 use Rattle.ath_syntax.specs.declared.place.Pos.{Pos}
 use Rattle.ath_sorts.specs.declared.sorts.Sym.{Sym}
 use Rattle.ath_grammar.specs.Tokens.{Placed, at}
@@ -94,3 +94,12 @@ names_behind names (p ∷ ps) = names_behind (names_with names p.1) ps
 abbrev pub end_of : ℕ → List Piece → ℕ
 end_of byte [] = byte
 end_of byte (p ∷ ps) = end_of (past p.0 p.1 byte) ps
+
+-- ---- brackets: how many are open behind a token, and whether never more are than so many
+abbrev pub open_behind : ℕ → Lexeme → ℕ
+open_behind n (punct b) = if b == 40 then n + 1 else if b == 41 then n - 1 else n
+open_behind n l = n
+
+abbrev pub has_depth : ℕ → ℕ → List Piece → Bool
+has_depth most n [] = true
+has_depth most n (p ∷ ps) = nat_le (open_behind n p.1) most && has_depth most (open_behind n p.1) ps

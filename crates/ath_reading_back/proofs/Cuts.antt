@@ -1,7 +1,7 @@
 -- Each token of a print is the longest one where it stands.
-use Rattle.std.proofs.Common.{◌≡◌, ℕ, zero, suc, ◌+◌, ◌-◌, ◌^◌, ◌<◌, ◌≤◌, Bool, true, false, cond, ◌&&◌, ◌||◌, not, List, [], ◌∷◌, ◌++◌, length, take, drop, slice_index, Option, Some, None, refl, sym, ap, ◌∙◌, subst, arith, ◌==◌, eqb-true, true≢false, append_assoc, append-nil, get_or, length-append, nat_lt}
+use Rattle.std.proofs.Common.{◌≡◌, ℕ, zero, suc, ◌+◌, ◌-◌, ◌^◌, ◌<◌, ◌≤◌, Bool, true, false, cond, ◌&&◌, ◌||◌, not, List, [], ◌∷◌, ◌++◌, length, take, drop, slice_index, Option, Some, None, refl, sym, ap, ◌∙◌, subst, arith, ◌==◌, eqb-true, true≢false, append_assoc, get_or, length-append, nat_lt}
 use Rattle.std.proofs.Math.Seq.{drop-append_seam, take-append_seam, take-append-add}
-use Rattle.std.proofs.lemmas.Bool.{and_parts, cond-true, cond-false, lt-ltb, le-ltb}
+use Rattle.std.proofs.lemmas.Bool.{and_parts, cond-true, cond-false, le-ltb}
 use Rattle.std.proofs.lemmas.Bool.Decides.{nat_tests}
 use Rattle.std.proofs.lemmas.List.Folds.{list_all-append}
 use Rattle.std.proofs.lemmas.Fmt.{length-decimal-le, first_decimal}
@@ -12,8 +12,8 @@ use Rattle.ath_names.specs.declared.limits.TheConstants.{MOST_NAME_BYTES}
 use Rattle.ath_tokens.specs.declared.limits.TheConstants.{MOST_INDEX_DIGITS}
 use Rattle.ath_tokens.specs.declared.tokens.LexKind.TheVariants.{NameTooLong}
 use Rattle.ath_tokens.specs.Bytes.{is_blank, is_word_char, begins_part, is_at_part}
-use Rattle.ath_tokens.specs.Spelling.{Lexeme, word, var, sort_var, punct, is_part, goes_on_word, is_index, number, indexed, spells}
-use Rattle.ath_tokens.specs.Cut.{longest, gap_len, name_len, Cut, found, fault, fault_of, cut_at}
+use Rattle.ath_tokens.specs.Spelling.{Lexeme, word, var, sort_var, punct, is_part, goes_on_word, is_index, indexed, spells}
+use Rattle.ath_tokens.specs.Cut.{longest, gap_len, name_len, found, fault, fault_of, cut_at}
 use Rattle.ath_tokens.proofs.Longest.{longest-at}
 use Rattle.ath_print.specs.Prefix.{index_text}
 use Rattle.ath_reading_back.specs.Pieces.{opening, closing, colon, token_text}

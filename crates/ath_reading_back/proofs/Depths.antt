@@ -1,5 +1,5 @@
 -- The levels that are open behind tokens of a print are its open brackets.
-use Rattle.std.proofs.Common.{◌≡◌, ℕ, zero, suc, ◌+◌, ◌-◌, ◌≤◌, Bool, true, false, ◌&&◌, List, [], ◌∷◌, ◌++◌, take, Option, Some, None, refl, sym, ap, ◌∙◌, subst, arith}
+use Rattle.std.proofs.Common.{◌≡◌, ℕ, zero, suc, ◌+◌, ◌-◌, ◌≤◌, Bool, true, false, List, [], ◌∷◌, take, Some, None, refl, sym, subst, arith}
 use Rattle.std.proofs.lemmas.Bool.{and_parts}
 use Rattle.std.proofs.lemmas.Bool.Decides.{nat_tests}
 use Rattle.std.specs.Prelude.{nat_le}
@@ -13,9 +13,9 @@ use Rattle.ath_grammar.specs.declared.lexeme.Lexeme.TheVariants as L
 use Rattle.ath_grammar.specs.declared.levels.Open.{Open}
 use Rattle.ath_grammar.specs.declared.levels.Open.TheVariants.{Bracket, Fresh, Variable}
 use Rattle.ath_grammar.specs.Tokens.{class_of_lexeme}
-use Rattle.ath_grammar.specs.Levels.{depth_of, closed, take_class, take_all}
+use Rattle.ath_grammar.specs.Levels.{depth_of, take_class, take_all}
 use Rattle.ath_lexemes.specs.Lexemes.{word_lexeme}
-use Rattle.ath_tokens.specs.Spelling.{Lexeme, word, var, sort_var}
+use Rattle.ath_tokens.specs.Spelling.{Lexeme, word}
 use Rattle.ath_reader.specs.Ahead.{number_in, seen_as}
 use Rattle.ath_reading_back.specs.Shapes.{SortShape, sort_item, sort_variable, SortShapes, no_sorts, more_sorts, Shape, variable, item, ascribed, Shapes, no_shapes, more_shapes}
 use Rattle.ath_reading_back.specs.Pieces.{Piece, opening, closing, colon, sort_pieces, sorts_pieces, shape_pieces, shapes_pieces, past, Page, placed, open_behind, has_depth}

@@ -1,6 +1,6 @@
 -- The shape of a readable sentence has words, names and indices that are tokens, and heads that are words of the grammar.
-use Rattle.std.proofs.Common.{◌≡◌, ℕ, zero, suc, ◌+◌, ◌^◌, ◌<◌, ◌≤◌, Bool, true, false, cond, not, ◌&&◌, ◌==◌, List, [], ◌∷◌, ◌++◌, map, length, slice_index, Option, Some, None, is_some, position, refl, sym, ap, ◌∙◌, subst, arith, codes, true≢false, eqb-true, if◌then◌else◌, length-append}
-use Rattle.std.proofs.lemmas.Bool.{and_parts, cond-true, cond-false}
+use Rattle.std.proofs.Common.{◌≡◌, ℕ, ◌+◌, ◌^◌, ◌<◌, ◌≤◌, Bool, true, false, not, ◌&&◌, ◌==◌, List, [], ◌∷◌, ◌++◌, map, length, slice_index, Option, Some, None, is_some, position, refl, sym, ap, ◌∙◌, subst, arith, codes, true≢false, eqb-true, if◌then◌else◌, length-append}
+use Rattle.std.proofs.lemmas.Bool.{and_parts, cond-false}
 use Rattle.std.proofs.lemmas.Bool.Decides.{nat_tests}
 use Rattle.std.proofs.lemmas.Fmt.{length-decimal-le_wide}
 use Rattle.std.proofs.lemmas.List.Quantifiers.{position-Some}
@@ -13,12 +13,11 @@ use Rattle.ath_names.specs.declared.limits.TheConstants.{MOST_NAME_BYTES}
 use Rattle.ath_sorts.specs.declared.sorts.Sym.{Sym}
 use Rattle.ath_sorts.specs.declared.sorts.SVar.{SVar}
 use Rattle.ath_sorts.specs.declared.sorts.SVar.TheVariants.{Written}
-use Rattle.ath_sorts.specs.declared.sorts.Sort.{Sort, Var, Con}
+use Rattle.ath_sorts.specs.declared.sorts.Sort.{Sort}
 use Rattle.ath_sorts.specs.declared.sorts.Sort.TheOpen as one
 use Rattle.ath_sorts.specs.declared.signature.Symbol.{Symbol}
-use Rattle.ath_sorts.specs.Sorts.{same_svar, image, apply_to}
-use Rattle.ath_sorts.specs.Signature.{Signature, symbol_of, symbol_among, arity_of, arity_among, at_sorts, boolean}
-use Rattle.ath_sorts.specs.Validity.{IsValid}
+use Rattle.ath_sorts.specs.Sorts.{same_svar, image}
+use Rattle.ath_sorts.specs.Signature.{Signature, symbol_of, symbol_among, arity_of, arity_among, boolean}
 use Rattle.ath_sorts.proofs.SortLaws.{sort_induction}
 use Rattle.ath_trees.specs.declared.node.Var.{Var as Variable}
 use Rattle.ath_trees.specs.declared.node.Conn.{Conn}
@@ -31,7 +30,7 @@ use Rattle.ath_trees.specs.Variables.{same_var}
 use Rattle.ath_trees.specs.WellSorted.{has_arity, is_valid_sort, HasSort, HaveSorts, IsWellSorted}
 use Rattle.ath_trees.proofs.ValidSorts.{valid-var, valid-con, valid_under, use_valid, symbol_good}
 use Rattle.ath_env.specs.LookUp.{text_of}
-use Rattle.ath_tokens.specs.Bytes.{is_word_char, begins_part, is_at_part}
+use Rattle.ath_tokens.specs.Bytes.{begins_part}
 use Rattle.ath_tokens.specs.Spelling.{goes_on_word, is_part}
 use Rattle.ath_grammar.specs.declared.class.WordClass.TheVariants.{Plain, Dotted}
 use Rattle.ath_grammar.specs.declared.lexeme.Lexeme.TheVariants as L
@@ -39,12 +38,12 @@ use Rattle.ath_lexemes.specs.declared.reserved.Reserved.{Reserved}
 use Rattle.ath_lexemes.specs.Reserved.{reserved_words}
 use Rattle.ath_lexemes.specs.Lexemes.{word_lexeme, reserved_or_plain}
 use Rattle.ath_print.specs.Prefix.{conn_text, quant_text, leaves_unsaid}
-use Rattle.ath_reading_back.specs.Shapes.{SortShape, sort_item, sort_variable, SortShapes, no_sorts, more_sorts, Shape, variable, item, ascribed, Shapes, no_shapes, more_shapes, SortShaper, Shaper, numbered_shape, sorts_in_turn, sort_step, sort_shape, in_turn, item_shape, sorted_shape, bound_shape, occurrence_shape, app_shape, term_shape, terms_shapes, sent_shape}
-use Rattle.ath_reading_back.specs.Premises.{is_word, is_name, is_variable_name, is_readable_variable, is_readable_term, are_readable_terms, has_readable_variables, has_symbol_names, has_sort_names, has_no_equals, AreDeclared}
+use Rattle.ath_reading_back.specs.Shapes.{SortShape, ascribed, Shapes, no_shapes, more_shapes, SortShaper, Shaper, numbered_shape, sorts_in_turn, sort_step, sort_shape, in_turn, item_shape, sorted_shape, bound_shape, occurrence_shape, app_shape, term_shape, terms_shapes, sent_shape}
+use Rattle.ath_reading_back.specs.Premises.{is_word, is_name, is_variable_name, is_readable_variable, is_readable_term, are_readable_terms, has_readable_variables, has_no_equals, AreDeclared}
 use Rattle.ath_reading_back.proofs.Digits.{decimal-words}
 use Rattle.ath_reading_back.proofs.Cuts.{IsWordText, IsPartText}
-use Rattle.ath_reading_back.proofs.Pieces.{LexicalSort, LexicalSorts, LexicalAscription, LexicalShape, LexicalShapes}
-use Rattle.ath_reading_back.proofs.Spelled.{PlainSort, PlainSorts, PlainAscription, PlainShape, PlainShapes, Head, plain_head, logical_head, infix_head}
+use Rattle.ath_reading_back.proofs.Pieces.{LexicalSort, LexicalSorts, LexicalShape, LexicalShapes}
+use Rattle.ath_reading_back.proofs.Spelled.{PlainSort, PlainSorts, PlainShape, PlainShapes, Head, plain_head, logical_head, infix_head}
 use Rattle.ath_reading_back.proofs.PrintLaws.{shaped_var, shaped_con}
 
 -- ---- names

@@ -6,3 +6,4 @@ mod Pieces
 mod Scanned
 mod Fine
 mod Depths
+mod ReadBack

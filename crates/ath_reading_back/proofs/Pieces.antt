@@ -1,9 +1,9 @@
 -- Each token of a shape is cut where its words, names and indices are tokens.
 use Rattle.std.proofs.Common.{◌≡◌, ℕ, ◌^◌, ◌<◌, Bool, true, false, List, [], ◌∷◌, ◌++◌, slice_index, Option, Some, None, refl, sym, ap, ◌∙◌, ◌==◌}
-use Rattle.ath_tokens.specs.Spelling.{word, var, sort_var}
+use Rattle.ath_tokens.specs.Spelling.{word}
 use Rattle.ath_reading_back.specs.Shapes.{SortShape, sort_item, sort_variable, SortShapes, no_sorts, more_sorts, Shape, variable, item, ascribed, Shapes, no_shapes, more_shapes}
 use Rattle.ath_reading_back.specs.Pieces.{Piece, opening, closing, colon, sort_pieces, sorts_pieces, shape_pieces, shapes_pieces, bytes_of}
-use Rattle.ath_reading_back.proofs.Cuts.{IsCut, Apart, at_end, at_stop, a_space, a_close, a_colon, IsWordText, IsPartText, cut-word, cut-open, cut-close, cut-colon, cut-sort_var, cut-var}
+use Rattle.ath_reading_back.proofs.Cuts.{IsCut, Apart, at_stop, a_space, a_close, a_colon, IsWordText, IsPartText, cut-word, cut-open, cut-close, cut-colon, cut-sort_var, cut-var}
 
 -- ---- shapes whose words, names and indices are tokens
 abbrev mutual
@@ -63,10 +63,13 @@ mutual
   sort-cut : (gap : Bool) (s : SortShape) → LexicalSort s → (rest : List Piece) → AllCut rest → Apart (bytes_of rest) → AllCut (sort_pieces gap s rest)
   sort-cut gap (sort_item w no_sorts) h rest c a = (cut-word w (bytes_of rest) h.0 a, c)
   sort-cut gap (sort_item w (more_sorts s ss)) h rest c a =
-      let others = sorts_pieces ss (closed_by rest) in
-      (cut-open (bytes_of ((false, word w) ∷ sort_pieces true s others)),
-        (cut-word w (bytes_of (sort_pieces true s others)) h.0 (apart_sort s others),
-          sort-cut true s h.2.0 others (sorts-cut ss h.2.1 (closed_by rest) (cut-close (bytes_of rest), c) (at_stop a_close)) (apart_sorts ss (closed_by rest) (at_stop a_close))))
+      let others = sorts_pieces ss (closed_by rest) in (
+        cut-open (bytes_of ((false, word w) ∷ sort_pieces true s others)),
+        (
+          cut-word w (bytes_of (sort_pieces true s others)) h.0 (apart_sort s others),
+          sort-cut true s h.2.0 others (sorts-cut ss h.2.1 (closed_by rest) (cut-close (bytes_of rest), c) (at_stop a_close)) (apart_sorts ss (closed_by rest) (at_stop a_close)),
+        ),
+      )
   sort-cut gap (sort_variable w) h rest c a = (cut-sort_var w (bytes_of rest) h a, c)
 
   sorts-cut : (ss : SortShapes) → LexicalSorts ss → (rest : List Piece) → AllCut rest → Apart (bytes_of rest) → AllCut (sorts_pieces ss rest)
@@ -98,20 +101,28 @@ mutual
       (cut-var w (bytes_of ((false, colon) ∷ sort_pieces false s rest)) k h.0 h.1 (at_stop a_colon), (cut-colon (bytes_of (sort_pieces false s rest)) (no_equals s h.2 rest), sort-cut false s h.2 rest c a))
   shape-cut gap (item w no_shapes) h rest c a = (cut-word w (bytes_of rest) h.0 a, c)
   shape-cut gap (item w (more_shapes t ts)) h rest c a =
-      let others = shapes_pieces ts (closed_by rest) in
-      (cut-open (bytes_of ((false, word w) ∷ shape_pieces true t others)),
-        (cut-word w (bytes_of (shape_pieces true t others)) h.0 (apart_shape t others),
-          shape-cut true t h.1.0 others (shapes-cut ts h.1.1 (closed_by rest) (cut-close (bytes_of rest), c) (at_stop a_close)) (apart_shapes ts (closed_by rest) (at_stop a_close))))
+      let others = shapes_pieces ts (closed_by rest) in (
+        cut-open (bytes_of ((false, word w) ∷ shape_pieces true t others)),
+        (
+          cut-word w (bytes_of (shape_pieces true t others)) h.0 (apart_shape t others),
+          shape-cut true t h.1.0 others (shapes-cut ts h.1.1 (closed_by rest) (cut-close (bytes_of rest), c) (at_stop a_close)) (apart_shapes ts (closed_by rest) (at_stop a_close)),
+        ),
+      )
   shape-cut gap (ascribed w no_shapes s) h rest c a =
       let last : List Piece = (true, colon) ∷ sort_pieces true s (closed_by rest) in
       (cut-open (bytes_of ((false, word w) ∷ last)), (cut-word w (bytes_of last) h.0 (at_stop a_space), ascription-cut s h.2 rest c))
   shape-cut gap (ascribed w (more_shapes t ts) s) h rest c a =
       let last : List Piece = (true, colon) ∷ sort_pieces true s (closed_by rest) in
-      let others = shapes_pieces ts (closed_by last) in
-      (cut-open (bytes_of ((false, opening) ∷ (false, word w) ∷ shape_pieces true t others)),
-        (cut-open (bytes_of ((false, word w) ∷ shape_pieces true t others)),
-          (cut-word w (bytes_of (shape_pieces true t others)) h.0 (apart_shape t others),
-            shape-cut true t h.1.0 others (shapes-cut ts h.1.1 (closed_by last) (cut-close (bytes_of last), ascription-cut s h.2 rest c) (at_stop a_close)) (apart_shapes ts (closed_by last) (at_stop a_close)))))
+      let others = shapes_pieces ts (closed_by last) in (
+        cut-open (bytes_of ((false, opening) ∷ (false, word w) ∷ shape_pieces true t others)),
+        (
+          cut-open (bytes_of ((false, word w) ∷ shape_pieces true t others)),
+          (
+            cut-word w (bytes_of (shape_pieces true t others)) h.0 (apart_shape t others),
+            shape-cut true t h.1.0 others (shapes-cut ts h.1.1 (closed_by last) (cut-close (bytes_of last), ascription-cut s h.2 rest c) (at_stop a_close)) (apart_shapes ts (closed_by last) (at_stop a_close)),
+          ),
+        ),
+      )
 
   shapes-cut : (ts : Shapes) → LexicalShapes ts → (rest : List Piece) → AllCut rest → Apart (bytes_of rest) → AllCut (shapes_pieces ts rest)
   shapes-cut no_shapes h rest c a = c

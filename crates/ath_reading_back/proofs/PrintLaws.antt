@@ -1,5 +1,5 @@
 -- The bytes of a print are those of its shape's pieces.
-use Rattle.std.proofs.Common.{◌≡◌, ℕ, ◌+◌, Bool, true, false, List, [], ◌∷◌, ◌++◌, map, length, Option, Some, None, refl, sym, ap, ◌∙◌, subst, append_assoc, append-nil, codes, if◌then◌else◌}
+use Rattle.std.proofs.Common.{◌≡◌, ℕ, Bool, true, false, List, [], ◌∷◌, ◌++◌, map, Option, Some, None, refl, sym, ap, ◌∙◌, append_assoc, append-nil, codes, if◌then◌else◌}
 use Rattle.std.specs.Prelude.{position}
 use Rattle.std.specs.List.{list_any, AllByRecursion}
 use Rattle.ath_sorts.specs.declared.sorts.Sym.{Sym}
@@ -17,13 +17,12 @@ use Rattle.ath_trees.specs.SortsIn.{result_sort}
 use Rattle.ath_trees.specs.Tree.{Term, Terms, var, app, none, more, Sent, atom, equal, negated, joined, bound, conn_of}
 use Rattle.ath_trees.specs.Variables.{same_var}
 use Rattle.ath_env.specs.LookUp.{text_of}
-use Rattle.ath_tokens.specs.Spelling.{word, sort_var}
 use Rattle.ath_print.specs.Printers as print
 use Rattle.ath_print.specs.Printers.{Printed, Printer}
 use Rattle.ath_print.specs.Prefix.{conn_text, quant_text, numbered, svar_printed, sort_step as printed_step, sort_printed, index_text, var_text, with_sort, occurrence, leaves_unsaid, ascribed as printed_ascribed, term_printed, terms_printed, sent_printed}
 use Rattle.ath_print.specs.Lines.{printed}
 use Rattle.ath_reading_back.specs.Shapes.{SortShape, sort_item, sort_variable, SortShapes, no_sorts, more_sorts, Shape, variable, item, ascribed, Shapes, no_shapes, more_shapes, SortShaper, Shaper, numbered_shape, sorts_in_turn, sort_step, sort_shape, in_turn, item_shape, sorted_shape, bound_shape, occurrence_shape, app_shape, term_shape, terms_shapes, sent_shape, shape_of}
-use Rattle.ath_reading_back.specs.Pieces.{Piece, opening, closing, colon, sort_pieces, sorts_pieces, shape_pieces, shapes_pieces, token_text, gap_text, bytes_of}
+use Rattle.ath_reading_back.specs.Pieces.{Piece, closing, colon, sort_pieces, sorts_pieces, shape_pieces, shapes_pieces, gap_text, bytes_of}
 
 -- ---- the bytes of a shape
 abbrev mutual

@@ -1,5 +1,5 @@
 -- The text of a print is read as its tokens, and then at its end.
-use Rattle.std.proofs.Common.{◌≡◌, ℕ, zero, suc, ◌+◌, Bool, true, false, cond, List, [], ◌∷◌, ◌++◌, length, take, drop, Option, Some, None, refl, sym, ap, ◌∙◌, subst, arith, append_assoc, length-append}
+use Rattle.std.proofs.Common.{◌≡◌, ℕ, ◌+◌, Bool, true, false, cond, List, [], ◌∷◌, ◌++◌, length, take, drop, Option, Some, None, refl, sym, ap, ◌∙◌, subst, arith, append_assoc, length-append}
 use Rattle.std.proofs.Math.Seq.{drop-append_seam}
 use Rattle.std.proofs.lemmas.Bool.{cond-true}
 use Rattle.std.proofs.lemmas.Str.{IsUtf8-nil, IsUtf8-from_ascii, is_utf8-from_IsUtf8}
@@ -8,10 +8,9 @@ use Rattle.std.specs.Str.{is_utf8}
 use Rattle.std.specs.Str.Lossy.{utf8_valid_len}
 use Rattle.std.specs.List.{position_or_len}
 use Rattle.std.specs.Str.{bytes_eq}
-use Rattle.ath_sorts.specs.declared.sorts.Sym.{Sym}
-use Rattle.ath_grammar.specs.Tokens.{Placed, at}
+use Rattle.ath_grammar.specs.Tokens.{at}
 use Rattle.ath_grammar.specs.declared.lexeme.Lexeme.TheVariants.{Variable, SortVariable}
-use Rattle.ath_names.specs.Names.{number_of, interned, KeepsNames}
+use Rattle.ath_names.specs.Names.{interned, KeepsNames}
 use Rattle.ath_names.proofs.NamesLaws.{number_of-interned, KeepsNames-interned, KeepsNames-refl, KeepsNames-trans, number_kept}
 use Rattle.ath_tokens.specs.declared.tokens.LexKind.TheVariants.{BadUtf8}
 use Rattle.ath_tokens.specs.Cut.{gap_len, Cut, found, ended, fault, cut_at, next_of, place_of, names_with}

@@ -1,13 +1,11 @@
 -- The tokens of a shape spell its text tree.
-use Rattle.std.proofs.Common.{◌≡◌, ℕ, ◌+◌, Bool, true, false, List, [], ◌∷◌, ◌++◌, Option, Some, None, refl, sym, ap, ◌∙◌, subst, append_assoc, append-nil}
+use Rattle.std.proofs.Common.{◌≡◌, ℕ, Bool, true, false, List, [], ◌∷◌, ◌++◌, Option, Some, None, refl, sym, ap, ◌∙◌, subst, append_assoc, append-nil}
 use Rattle.ath_sorts.specs.declared.sorts.Sym.{Sym}
 use Rattle.ath_syntax.specs.declared.place.Pos.{Pos}
 use Rattle.ath_syntax.specs.declared.node.SortText.{SortText}
 use Rattle.ath_syntax.specs.Tree.{Phrase, name_at, variable_at, ascribe_at, apply_at, Phrases, no_phrases, more_phrases}
 use Rattle.ath_grammar.specs.declared.class.WordClass.TheVariants.{Plain, Logical, Infix}
 use Rattle.ath_grammar.specs.declared.class.Opener.TheVariants as O
-use Rattle.ath_grammar.specs.declared.class.Mark.TheVariants as M
-use Rattle.ath_grammar.specs.declared.class.Class.{Class}
 use Rattle.ath_grammar.specs.declared.class.Class.TheVariants as C
 use Rattle.ath_grammar.specs.declared.lexeme.Lexeme.{Lexeme}
 use Rattle.ath_grammar.specs.declared.lexeme.Lexeme.TheVariants as L
@@ -22,14 +20,14 @@ use Rattle.ath_grammar.specs.declared.item.Attr.{Attr}
 use Rattle.ath_grammar.specs.declared.item.Attr.TheVariants.{Is, Given}
 use Rattle.ath_grammar.specs.declared.item.Item.{Item}
 use Rattle.ath_grammar.specs.declared.item.Item.TheVariants as I
-use Rattle.ath_grammar.specs.Tokens.{Placed, at, next_class}
+use Rattle.ath_grammar.specs.Tokens.{Placed, at}
 use Rattle.ath_grammar.specs.Tables.{Start, begin, start, want_of}
 use Rattle.ath_grammar.specs.Spells.{Spells, Starts, spelled, a_token, a_symbol, an_act, begun, passed, starts}
 use Rattle.ath_grammar.specs.Grammar.{grammar}
-use Rattle.ath_grammar.specs.Trees.{Value, a_place, a_name, a_variable, a_sort, sorts, a_phrase, phrases, add_phrase, trees, saved}
+use Rattle.ath_grammar.specs.Trees.{Value, a_place, a_variable, a_sort, sorts, a_phrase, phrases, add_phrase, trees, saved}
 use Rattle.ath_grammar.specs.Directives.{SpellsDirective}
 use Rattle.ath_lexemes.specs.Lexemes.{word_lexeme}
-use Rattle.ath_tokens.specs.Spelling.{word, var, sort_var}
+use Rattle.ath_tokens.specs.Spelling.{word, var}
 use Rattle.ath_reader.specs.Ahead.{number_in}
 use Rattle.ath_reading_back.specs.Shapes.{SortShape, sort_item, sort_variable, SortShapes, no_sorts, more_sorts, Shape, variable, item, ascribed, Shapes, no_shapes, more_shapes}
 use Rattle.ath_reading_back.specs.Pieces.{Piece, opening, closing, colon, sort_pieces, sorts_pieces, shape_pieces, shapes_pieces, past, Page, place_at, placed}
@@ -109,8 +107,8 @@ module _ (page : Page) where
     sort-under (sort_item w no_sorts) h o gap byte rest {vs = vs} k = as_token (h.0 (number_in page.names w)) (begun-by (o.at_word (trees.kind vs)) (an_act k))
     sort-under (sort_item w (more_sorts s ss)) h o gap byte rest {vs = vs} k =
         begun-by (o.at_open (trees.kind vs)) (as_token (h.0 (number_in page.names w)) (a_symbol (begun refl refl (an_act (
-          sort-under s h.1.0 sorts_open true (past false (word w) (past gap opening byte)) (sorts_pieces ss ((false, closing) ∷ rest)) (an_act (
-            sorts-read ss h.1.1 (sort_tree page s ∷ []) (past_sort true s (past false (word w) (past gap opening byte))) rest (an_act k))))))))
+        sort-under s h.1.0 sorts_open true (past false (word w) (past gap opening byte)) (sorts_pieces ss ((false, closing) ∷ rest)) (an_act (
+        sorts-read ss h.1.1 (sort_tree page s ∷ []) (past_sort true s (past false (word w) (past gap opening byte))) rest (an_act k))))))))
     sort-under (sort_variable w) h o gap byte rest {vs = vs} k = begun-by (o.at_variable (trees.kind vs)) (an_act k)
 
     sorts-read : (ss : SortShapes) → PlainSorts ss → (acc : List SortText) (byte : ℕ) (rest : List Piece) {is : List Item} {vs ws : List Value} {r : List Placed}
@@ -118,7 +116,7 @@ module _ (page : Page) where
     sorts-read no_sorts h acc byte rest k = a_symbol (begun refl refl (with_value (ap sorts (sym (append-nil acc))) k))
     sorts-read (more_sorts s ss) h acc byte rest k =
         sort-under s h.0 sorts_open true byte (sorts_pieces ss ((false, closing) ∷ rest)) (an_act (
-          sorts-read ss h.1 (acc ++ (sort_tree page s ∷ [])) (past_sort true s byte) rest (with_value (ap sorts (append_assoc acc (sort_tree page s ∷ []) (sorts_trees page ss))) k)))
+        sorts-read ss h.1 (acc ++ (sort_tree page s ∷ [])) (past_sort true s byte) rest (with_value (ap sorts (append_assoc acc (sort_tree page s ∷ []) (sorts_trees page ss))) k)))
 
 -- ---- phrases: with which items a symbol goes on behind the first token of an expression
 record OpensPhrase (s : Symbol) (x : Attr) (js : List Item) : Type 0 where
@@ -235,7 +233,7 @@ module _ (page : Page) where
       → Sp (I.Symbol y x ∷ is) (a_place p ∷ vs) (placed page byte ((false, word w) ∷ (true, colon) ∷ sort_pieces true s ((false, closing) ∷ rest))) ws r
   name-ascribed w e s hs o byte rest {p = p} {vs = vs} c =
       as_token (e (number_in page.names w)) (begun-by (o.at_plain (trees.kind (a_place p ∷ vs))) (an_act (a_symbol (begun refl refl (
-        sort-under page s hs a_sort_opens true (past true colon (past false (word w) byte)) ((false, closing) ∷ rest) (a_token refl (an_act c)))))))
+      sort-under page s hs a_sort_opens true (past true colon (past false (word w) byte)) ((false, closing) ∷ rest) (a_token refl (an_act c)))))))
 
   module _ (w : List ℕ) (t : Shape) (ht : ReadsShape t) (ts : Shapes) (hts : ReadsParts ts) (plain : PlainShapes ts) where
     abbrev after_head : ℕ → ℕ
@@ -258,8 +256,8 @@ module _ (page : Page) where
         let first = after_head byte in
         let x = tree_of page true t first in
         ht _ _ _ o true first (shapes_pieces ts ((false, closing) ∷ rest)) (next_shapes ts plain ((false, closing) ∷ rest) next_close) _ _ _ _ (an_act (
-          hts true (more_phrases x no_phrases) (past_shape true t first) rest _ _ _ _ (an_act (
-            with_value (ap (λ (xs : Phrases). a_phrase (apply_at p (name_at q n) xs)) (add-first x (trees_of page ts (past_shape true t first)))) c))))
+        hts true (more_phrases x no_phrases) (past_shape true t first) rest _ _ _ _ (an_act (
+        with_value (ap (λ (xs : Phrases). a_phrase (apply_at p (name_at q n) xs)) (add-first x (trees_of page ts (past_shape true t first)))) c))))
 
     -- a head and its parts, behind the bracket
     item-inside : Head w → {y : Symbol} {x : Attr} {js : List Item} → OpensItem y x js → (byte : ℕ) (rest : List Piece) {is : List Item} {p : Pos} {vs ws : List Value} {r : List Placed}
@@ -272,12 +270,12 @@ module _ (page : Page) where
     -- an item and its sort, behind the bracket
     item-ascribed : Head w → (s : SortShape) → PlainSort s → {y : Symbol} {x : Attr} {js : List Item} → OpensInside y x js → (byte : ℕ) (rest : List Piece) {is : List Item} {p : Pos} {vs ws : List Value} {r : List Placed}
         → Sp (js ++ is) (a_phrase (ascribe_at p (apply_at (place_at page false byte) (name_at (place_at page false (past false opening byte)) (number_in page.names w)) (parts_of (past false opening byte))) (sort_tree page s)) ∷ vs)
-            (placed page (past false closing (past_sort true s (past true colon (after_parts (past false opening byte))))) rest) ws r
+        (placed page (past false closing (past_sort true s (past true colon (after_parts (past false opening byte))))) rest) ws r
         → Sp (I.Symbol y x ∷ is) (a_place p ∷ vs) (placed page byte ((false, opening) ∷ (false, word w) ∷ part_pieces ((true, colon) ∷ sort_pieces true s ((false, closing) ∷ rest)))) ws r
     item-ascribed hw s hs o byte rest {p = p} {vs = vs} c =
         begun-by (o.at_open (trees.kind (a_place p ∷ vs))) (
-          item-inside hw o.within (past false opening byte) ((true, colon) ∷ sort_pieces true s ((false, closing) ∷ rest)) (a_symbol (begun refl refl (
-            sort-under page s hs a_sort_opens true (past true colon (after_parts (past false opening byte))) ((false, closing) ∷ rest) (a_token refl (an_act c))))))
+        item-inside hw o.within (past false opening byte) ((true, colon) ∷ sort_pieces true s ((false, closing) ∷ rest)) (a_symbol (begun refl refl (
+        sort-under page s hs a_sort_opens true (past true colon (after_parts (past false opening byte))) ((false, closing) ∷ rest) (a_token refl (an_act c))))))
 
   mutual
     shape-under : (t : Shape) → PlainShape t → ReadsShape t
@@ -296,7 +294,7 @@ module _ (page : Page) where
     parts-read no_shapes h false acc byte rest is vs ws r c = a_symbol (begun refl refl c)
     parts-read (more_shapes t ts) h b acc byte rest is vs ws r c =
         shape-under t h.0 _ _ _ (parts_open b) true byte (shapes_pieces ts ((false, closing) ∷ rest)) (next_shapes ts h.1 ((false, closing) ∷ rest) next_close) _ _ _ _ (an_act (
-          parts-read ts h.1 false (add_phrase acc (tree_of page true t byte)) (past_shape true t byte) rest is vs ws r c))
+        parts-read ts h.1 false (add_phrase acc (tree_of page true t byte)) (past_shape true t byte) rest is vs ws r c))
 
   -- ---- directives
   pub spells-directive : (s : Shape) → PlainShape s → SpellsDirective true (placed page 0 (shape_pieces false s [])) (directive_of page s) []

@@ -2,3 +2,4 @@ pub mod Shapes
 pub mod Pieces
 pub mod TextTree
 pub mod Premises
+pub mod Laws

@@ -1,7 +1,6 @@
 -- The tokens of a print, with one space before some, and its bytes.
-use Rattle.std.specs.Prelude.{ℕ, ◌+◌, ◌-◌, Bool, true, false, ◌&&◌, ◌==◌, nat_le, List, [], ◌∷◌, ◌++◌, length, Option, Some, None, if◌then◌else◌}
+use Rattle.std.specs.Prelude.{ℕ, ◌+◌, ◌-◌, Bool, true, false, ◌&&◌, ◌==◌, nat_le, List, [], ◌∷◌, ◌++◌, length, Some, None, if◌then◌else◌}
 use Rattle.ath_syntax.specs.declared.place.Pos.{Pos}
-use Rattle.ath_sorts.specs.declared.sorts.Sym.{Sym}
 use Rattle.ath_grammar.specs.Tokens.{Placed, at}
 use Rattle.ath_tokens.specs.Cut.{place_of, names_with}
 use Rattle.ath_tokens.specs.Spelling.{Lexeme, word, var, sort_var, str, punct, becomes}

@@ -1,7 +1,6 @@
 -- The text tree of a print: an Ascribe for each `(t : S)`, an Apply for each other parenthesis outside a sort, a Var for each
 -- variable and a Name for each word, each at the place of its first token.
-use Rattle.std.specs.Prelude.{ℕ, Bool, true, false, List, [], ◌∷◌, Option, Some, None}
-use Rattle.ath_sorts.specs.declared.sorts.Sym.{Sym}
+use Rattle.std.specs.Prelude.{ℕ, Bool, true, false, List, [], ◌∷◌, Some, None}
 use Rattle.ath_syntax.specs.declared.node.SortText.{SortText}
 use Rattle.ath_syntax.specs.declared.node.SortText.TheVariants.{Name as sort_name, Var as sort_var_text, Con as sort_con}
 use Rattle.ath_syntax.specs.Tree.{Phrase, name_at, variable_at, ascribe_at, apply_at, Phrases, no_phrases, more_phrases, DirectiveTree, directive_at, phrase_is}

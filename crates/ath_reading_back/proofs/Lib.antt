@@ -7,3 +7,4 @@ mod Scanned
 mod Fine
 mod Depths
 mod ReadBack
+mod Rows

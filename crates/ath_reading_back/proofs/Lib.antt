@@ -1,0 +1,10 @@
+mod PrintLaws
+mod Spelled
+mod Digits
+mod Cuts
+mod Pieces
+mod Scanned
+mod Fine
+mod Depths
+mod ReadBack
+mod Rows

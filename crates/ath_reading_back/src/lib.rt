@@ -1,0 +1,4 @@
+//! What is printed is read back.
+#![tactic(auto)]
+
+pub mod laws;

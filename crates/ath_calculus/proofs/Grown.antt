@@ -1,5 +1,5 @@
 -- What grows with a theory.
-use Rattle.std.proofs.Common.{◌≡◌, ℕ, suc, Bool, true, false, ◌&&◌, List, [], ◌∷◌, length, map, Option, Some, None, refl, sym, ◌∙◌, ap}
+use Rattle.std.proofs.Common.{◌≡◌, ℕ, suc, Bool, true, false, ◌&&◌, List, [], ◌∷◌, length, map, Option, Some, None, inl, inr, refl, sym, ◌∙◌, ap, subst}
 use Rattle.std.specs.List.{list_all, AllByRecursion}
 use Rattle.ath_sorts.specs.declared.sorts.Sym.{Sym}
 use Rattle.ath_sorts.specs.declared.sorts.SVar.{SVar}
@@ -11,8 +11,8 @@ use Rattle.ath_sorts.proofs.SortLaws.{sort_induction}
 use Rattle.ath_sorts.specs.Signature.{Signature, arity_of}
 use Rattle.ath_trees.specs.Tree.{Term, Terms, Sent, atom, equal, negated, joined, bound}
 use Rattle.ath_trees.specs.WellSorted.{has_arity, valid_step, is_valid_sort, HasSort, var_has, app_has, HaveSorts, none_has, more_has, IsWellSorted, AreWellSorted}
-use Rattle.ath_calculus.specs.Derives.{Derives, axiom_of, if_elim, alpha}
-use Rattle.ath_calculus.specs.Laws.{Extends, AreAmong}
+use Rattle.ath_calculus.specs.Derives.{Derives, IsAmong, AreAmong, truth, falsity, axiom_of, hypothesis, true_intro, weaken, alpha, if_intro, if_elim, and_intro, and_left, and_right, or_left, or_right, or_elim, not_intro, not_elim, not_not_elim, iff_intro, iff_left, iff_right}
+use Rattle.ath_calculus.specs.Laws.{Extends}
 use Rattle.ath_calculus.specs.Theory.{Theory}
 use Rattle.ath_calculus.proofs.AlphaSorted.{alpha-sorted}
 
@@ -81,10 +81,51 @@ module _ (old new : Theory) (grown : Extends old new) where
 
   pub derivation_kept : (fewer others : List Sent) → AreAmong fewer others → {hyps : List Sent} {p : Sent} → Derives old fewer hyps p → Derives new others hyps p
   derivation_kept fewer others among (axiom_of {hyps} {p} h w i) = axiom_of (sents_kept hyps h) (sent_kept p w) (among p i)
-  derivation_kept fewer others among (if_elim d e) = if_elim (derivation_kept fewer others among d) (derivation_kept fewer others among e)
+  derivation_kept fewer others among (hypothesis {hyps} h i) = hypothesis (sents_kept hyps h) i
+  derivation_kept fewer others among (true_intro {hyps} h w) = true_intro (sents_kept hyps h) (sent_kept truth w)
+  derivation_kept fewer others among (weaken {some} {hyps} h i d) = weaken (sents_kept hyps h) i (derivation_kept fewer others among d)
   derivation_kept fewer others among (alpha e d) = alpha e (derivation_kept fewer others among d)
+  derivation_kept fewer others among (if_intro d) = if_intro (derivation_kept fewer others among d)
+  derivation_kept fewer others among (if_elim d e) = if_elim (derivation_kept fewer others among d) (derivation_kept fewer others among e)
+  derivation_kept fewer others among (and_intro d e) = and_intro (derivation_kept fewer others among d) (derivation_kept fewer others among e)
+  derivation_kept fewer others among (and_left d) = and_left (derivation_kept fewer others among d)
+  derivation_kept fewer others among (and_right d) = and_right (derivation_kept fewer others among d)
+  derivation_kept fewer others among (or_left {hyps} {p} {q} w d) = or_left (sent_kept q w) (derivation_kept fewer others among d)
+  derivation_kept fewer others among (or_right {hyps} {p} {q} w d) = or_right (sent_kept p w) (derivation_kept fewer others among d)
+  derivation_kept fewer others among (or_elim d e f) = or_elim (derivation_kept fewer others among d) (derivation_kept fewer others among e) (derivation_kept fewer others among f)
+  derivation_kept fewer others among (not_intro d) = not_intro (derivation_kept fewer others among d)
+  derivation_kept fewer others among (not_elim w d e) = not_elim (sent_kept falsity w) (derivation_kept fewer others among d) (derivation_kept fewer others among e)
+  derivation_kept fewer others among (not_not_elim d) = not_not_elim (derivation_kept fewer others among d)
+  derivation_kept fewer others among (iff_intro d e) = iff_intro (derivation_kept fewer others among d) (derivation_kept fewer others among e)
+  derivation_kept fewer others among (iff_left d) = iff_left (derivation_kept fewer others among d)
+  derivation_kept fewer others among (iff_right d) = iff_right (derivation_kept fewer others among d)
+
+member_sorted : (sig : Signature) (ps : List Sent) (p : Sent) → AreWellSorted sig ps → IsAmong p ps → IsWellSorted sig p
+member_sorted sig [] p h i = absurd i
+member_sorted sig (q ∷ ps) p h (inl e) = subst (IsWellSorted sig) (sym e) h.0
+member_sorted sig (q ∷ ps) p h (inr i) = member_sorted sig ps p h.1 i
+
+-- hypotheses and conclusion
+pub all_sorted : {th : Theory} {asserted hyps : List Sent} {p : Sent} → Derives th asserted hyps p → AreWellSorted th.signature hyps × IsWellSorted th.signature p
+all_sorted (axiom_of h w i) = (h, w)
+all_sorted {th} (hypothesis {hyps} {p} h i) = (h, member_sorted th.signature hyps p h i)
+all_sorted (true_intro h w) = (h, w)
+all_sorted (weaken h i d) = (h, (all_sorted d).1)
+all_sorted {th} (alpha {hyps} {p} {q} e d) = let s = all_sorted d in (s.0, alpha-sorted th.signature p q e s.1)
+all_sorted (if_intro d) = let s = all_sorted d in (s.0.1, (s.0.0, s.1))
+all_sorted (if_elim d e) = let s = all_sorted d in (s.0, s.1.1)
+all_sorted (and_intro d e) = let s = all_sorted d in (s.0, (s.1, (all_sorted e).1))
+all_sorted (and_left d) = let s = all_sorted d in (s.0, s.1.0)
+all_sorted (and_right d) = let s = all_sorted d in (s.0, s.1.1)
+all_sorted (or_left w d) = let s = all_sorted d in (s.0, (s.1, w))
+all_sorted (or_right w d) = let s = all_sorted d in (s.0, (w, s.1))
+all_sorted (or_elim d e f) = ((all_sorted d).0, (all_sorted e).1)
+all_sorted (not_intro d) = let s = all_sorted d in (s.0.1, s.0.0)
+all_sorted (not_elim w d e) = ((all_sorted d).0, w)
+all_sorted (not_not_elim d) = all_sorted d
+all_sorted (iff_intro d e) = all_sorted d
+all_sorted (iff_left d) = all_sorted d
+all_sorted (iff_right d) = let s = all_sorted d in (s.0, (s.1.1, s.1.0))
 
 pub well_sorted : {th : Theory} {asserted hyps : List Sent} {p : Sent} → Derives th asserted hyps p → IsWellSorted th.signature p
-well_sorted (axiom_of h w i) = w
-well_sorted (if_elim d e) = (well_sorted d).1
-well_sorted {th} (alpha {hyps} {p} {q} e d) = alpha-sorted th.signature p q e (well_sorted d)
+well_sorted d = (all_sorted d).1

@@ -23,9 +23,9 @@ use Rattle.ath_trees.specs.Tree.{Term, Sent, atom, equal, negated, joined, bound
 use Rattle.ath_trees.specs.WellSorted.{is_valid_sort, HasSort, var_has, IsWellSorted}
 use Rattle.ath_trees.proofs.ValidSorts.{valid-var, use_valid}
 use Rattle.ath_construction.proofs.ApplicationLaws.{found-name}
-use Rattle.ath_calculus.specs.Derives.{Derives, if_elim, alpha, IsAmong, AreDerivable}
+use Rattle.ath_calculus.specs.Derives.{Derives, if_elim, alpha, IsAmong, AreAmong, AreDerivable}
 use Rattle.ath_calculus.specs.Theory.{Theory}
-use Rattle.ath_calculus.specs.Laws.{Extends, AreAmong}
+use Rattle.ath_calculus.specs.Laws.{Extends}
 use Rattle.ath_calculus.proofs.Grown.{derivation_kept, well_sorted}
 use Rattle.ath_env.specs.Values.{Value, a_term, a_sentence, a_symbol, a_connective, a_quantifier, a_back, a_method, term_of, sentence_of, value_of}
 use Rattle.ath_env.specs.LookUp.{text_of, first_values, found_value}

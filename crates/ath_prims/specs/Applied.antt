@@ -70,18 +70,18 @@ pub data Fitted : Type 0 where
   no_sentence : ℕ → Fitted
   no_shape : ℕ → Fitted
 
-abbrev mutual
-  pub fitted : ℕ → List Premise → List Argument → Parts → Fitted
-  fitted i (r ∷ rs) (x ∷ xs) e = fitted_by i r rs xs x.sentence e
-  fitted i rs xs e = all_fit e
+abbrev pub fitted_on : ℕ → Option Parts → (Parts → Fitted) → Fitted
+fitted_on i None go = no_shape i
+fitted_on i (Some e) go = go e
 
-  pub fitted_by : ℕ → Premise → List Premise → List Argument → Option Sent → Parts → Fitted
-  fitted_by i r rs xs None e = no_sentence i
-  fitted_by i r rs xs (Some p) e = fitted_on i rs xs (fits r.shape p e)
+abbrev pub fitted_by : ℕ → Premise → Option Sent → Parts → (Parts → Fitted) → Fitted
+fitted_by i r None e go = no_sentence i
+fitted_by i r (Some p) e go = fitted_on i (fits r.shape p e) go
 
-  pub fitted_on : ℕ → List Premise → List Argument → Option Parts → Fitted
-  fitted_on i rs xs None = no_shape i
-  fitted_on i rs xs (Some e) = fitted (suc i) rs xs e
+-- the arguments from this number on
+abbrev pub fitted : ℕ → List Premise → List Argument → Parts → Fitted
+fitted i (r ∷ rs) (x ∷ xs) e = fitted_by i r x.sentence e (fitted (suc i) rs xs)
+fitted i rs xs e = all_fit e
 
 -- the first argument that has to hold and doesn't
 abbrev pub missing : List Premise → List Argument → Option Sent

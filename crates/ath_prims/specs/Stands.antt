@@ -9,9 +9,9 @@ use Rattle.ath_trees.specs.Tree.{Sent}
 use Rattle.ath_trees.specs.WellSorted.{IsWellSorted}
 use Rattle.ath_terms.specs.Trees.{Trees, sent_at, IsSent}
 use Rattle.ath_calculus.specs.Derives.{truth, falsity}
-use Rattle.ath_prims.specs.declared.apply.Argument.{Argument as Coded}
-use Rattle.ath_prims.specs.declared.apply.PrimError.{PrimError}
-use Rattle.ath_prims.specs.declared.apply.PrimError.TheVariants.{ArgCount, WrongKind, WrongShape, NotInBase, TooLarge, TooDeep, Memory}
+use Rattle.ath_prims.specs.declared.applying.Argument.{Argument as Coded}
+use Rattle.ath_prims.specs.declared.applying.PrimError.{PrimError}
+use Rattle.ath_prims.specs.declared.applying.PrimError.TheVariants.{ArgCount, WrongKind, WrongShape, NotInBase, TooLarge, TooDeep, Memory}
 use Rattle.ath_prims.specs.declared.bindings.Bindings.{Bindings}
 use Rattle.ath_prims.specs.Applied.{Argument, Parts, Fitted, all_fit, no_sentence, no_shape, Answer, miscounted, wrong_kind, wrong_shape, not_in_base, concludes}
 

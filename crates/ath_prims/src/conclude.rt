@@ -11,12 +11,12 @@ ghost use Rattle.ath_calculus.specs.Derives.{truth};
 ghost use Rattle.ath_prims.specs.Applied.{concluded, part};
 ghost use Rattle.ath_prims.specs.Stands.{AreIn, HasConstants, IsConcluded, parts_at, sentence_at};
 
-use crate::apply::PrimError;
+use crate::applying::PrimError;
 use crate::bindings::{Bindings, found};
 use crate::method::TRUE;
 use crate::schema::{Conclusion, Part};
-use ath_sorts::sorts::{BOOLEAN, con};
 use ath_sorts::Sym;
+use ath_sorts::sorts::{BOOLEAN, con};
 use ath_terms::{BuildError, SentNode, Store, TermNode};
 use ath_trees::{Binary, SentId};
 use sqlite_items::Items;

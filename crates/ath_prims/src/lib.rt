@@ -1,7 +1,7 @@
 //! The primitive methods on connectives: a table of schemata, and what reads it.
 #![tactic(auto)]
 
-pub mod apply;
+pub mod applying;
 mod bindings;
 mod conclude;
 pub mod laws;
@@ -9,6 +9,6 @@ pub mod method;
 pub mod schema;
 mod shapes;
 
-pub use apply::{Argument, PrimError, apply};
+pub use applying::{Argument, PrimError, apply};
 pub use method::{Method, row};
 pub use schema::{Conclusion, Part, Premise, Row, Shape};

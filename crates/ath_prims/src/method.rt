@@ -28,6 +28,7 @@ pub enum Method {
 
 /// The constants `true` and `false`.
 pub const TRUE: Sym = Sym(1);
+
 pub const FALSE: Sym = Sym(2);
 
 // An argument that has to hold, and one that hasn't.
@@ -40,21 +41,39 @@ macro_rules! premise {
 }
 
 const CLAIM: [Premise; 1] = [premise!(held any A)];
+
 const MP: [Premise; 2] = [premise!(held If A B), premise!(held any A)];
+
 const BOTH: [Premise; 2] = [premise!(held any A), premise!(held any B)];
+
 const AN_AND: [Premise; 1] = [premise!(held And A B)];
+
 const LEFT_EITHER: [Premise; 2] = [premise!(held any A), premise!(free any B)];
+
 const RIGHT_EITHER: [Premise; 2] = [premise!(free any A), premise!(held any B)];
-const CD: [Premise; 3] = [premise!(held Or A B), premise!(held If A C), premise!(held If B C)];
+
+const CD: [Premise; 3] = [
+    premise!(held Or A B),
+    premise!(held If A C),
+    premise!(held If B C),
+];
+
 const EQUIV: [Premise; 2] = [premise!(held If A B), premise!(held If B A)];
+
 const AN_IFF: [Premise; 1] = [premise!(held Iff A B)];
+
 const DN: [Premise; 1] = [premise!(held not not A)];
+
 const ABSURD: [Premise; 2] = [premise!(held any A), premise!(held not A)];
 
 fn schema(name: &'static str, premises: &'static [Premise], conclusion: Conclusion) -> Row
     ensures { row_of result ≡ record { name = name.now; premises = premises.now; conclusion = conclusion } }
 {
-    Row { name, premises, conclusion }
+    Row {
+        name,
+        premises,
+        conclusion,
+    }
 }
 
 /// The row of a method.
@@ -64,15 +83,39 @@ pub fn row(method: Method) -> Row
     match method {
         Method::Claim => schema("claim", &CLAIM, Conclusion::Bare(Part::A)),
         Method::Mp => schema("mp", &MP, Conclusion::Bare(Part::B)),
-        Method::Both => schema("both", &BOTH, Conclusion::Built(Binary::And, Part::A, Part::B)),
+        Method::Both => schema(
+            "both",
+            &BOTH,
+            Conclusion::Built(Binary::And, Part::A, Part::B),
+        ),
         Method::LeftAnd => schema("left-and", &AN_AND, Conclusion::Bare(Part::A)),
         Method::RightAnd => schema("right-and", &AN_AND, Conclusion::Bare(Part::B)),
-        Method::LeftEither => schema("left-either", &LEFT_EITHER, Conclusion::Built(Binary::Or, Part::A, Part::B)),
-        Method::RightEither => schema("right-either", &RIGHT_EITHER, Conclusion::Built(Binary::Or, Part::A, Part::B)),
+        Method::LeftEither => schema(
+            "left-either",
+            &LEFT_EITHER,
+            Conclusion::Built(Binary::Or, Part::A, Part::B),
+        ),
+        Method::RightEither => schema(
+            "right-either",
+            &RIGHT_EITHER,
+            Conclusion::Built(Binary::Or, Part::A, Part::B),
+        ),
         Method::Cd => schema("cd", &CD, Conclusion::Bare(Part::C)),
-        Method::Equiv => schema("equiv", &EQUIV, Conclusion::Built(Binary::Iff, Part::A, Part::B)),
-        Method::LeftIff => schema("left-iff", &AN_IFF, Conclusion::Built(Binary::If, Part::A, Part::B)),
-        Method::RightIff => schema("right-iff", &AN_IFF, Conclusion::Built(Binary::If, Part::B, Part::A)),
+        Method::Equiv => schema(
+            "equiv",
+            &EQUIV,
+            Conclusion::Built(Binary::Iff, Part::A, Part::B),
+        ),
+        Method::LeftIff => schema(
+            "left-iff",
+            &AN_IFF,
+            Conclusion::Built(Binary::If, Part::A, Part::B),
+        ),
+        Method::RightIff => schema(
+            "right-iff",
+            &AN_IFF,
+            Conclusion::Built(Binary::If, Part::B, Part::A),
+        ),
         Method::Dn => schema("dn", &DN, Conclusion::Bare(Part::A)),
         Method::Absurd => schema("absurd", &ABSURD, Conclusion::Constant(FALSE)),
         Method::TrueIntro => schema("true-intro", &[], Conclusion::Constant(TRUE)),

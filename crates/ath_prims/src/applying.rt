@@ -9,7 +9,7 @@ ghost use Rattle.ath_prims.specs.Applied.{applied, by_row, fitted, missing, no_p
 ghost use Rattle.ath_prims.specs.Follows.{Follows};
 ghost use Rattle.ath_prims.specs.Schemata.{row_of};
 ghost use Rattle.ath_prims.specs.Stands.{AreFitted, HasConstants, IsAnswer, IsArgument, IsFound, arguments_at, sentence_at};
-ghost use Rattle.ath_prims.specs.declared.apply.PrimError.TheVariants.{Memory};
+ghost use Rattle.ath_prims.specs.declared.applying.PrimError.TheVariants.{Memory};
 
 use crate::bindings::{Bindings, no_bindings};
 use crate::conclude::conclude;
@@ -60,11 +60,7 @@ impl From<AllocError> for PrimError {
 }
 
 /// The parts that are found where each argument has its shape, or the first that is no sentence or has another.
-fn fit_all(
-    store: &Store,
-    premises: &[Premise],
-    args: &[Argument],
-) -> Result<Bindings, PrimError>
+fn fit_all(store: &Store, premises: &[Premise], args: &[Argument]) -> Result<Bindings, PrimError>
     requires many { length premises.now ≡ length args.now }
     requires inside { All (IsArgument store.now) args.now }
     ensures { AreFitted store.now (fitted 1 premises.now (arguments_at store.now args.now) no_parts) result }

@@ -80,7 +80,7 @@ same_binary-told c d e = absurd (cc)
 sides-told : (k : Binary) (m n : Part) (l : Binary) (x y : Sent) (e f : Parts) → fits (Joined k m n) (joined l x y) e ≡ Some f → Extends e f × IsShaped (Joined k m n) (joined l x y) f
 sides-told k m n l x y e f h = one (same_binary k l) refl h
   where
-    one : (b : Bool) → same_binary k l ≡ b → option_and_then (λ s. option_and_then (bound_to n s.1) (bound_to m s.0 e)) (if b then Some (x, y) else None) ≡ Some f → Extends e f × IsShaped (Joined k m n) (joined l x y) f
+    one : (b : Bool) → same_binary k l ≡ b → option_and_then (λ (s : Sent × Sent). option_and_then (bound_to n s.1) (bound_to m s.0 e)) (if b then Some (x, y) else None) ≡ Some f → Extends e f × IsShaped (Joined k m n) (joined l x y) f
     one false t i = absurd (cc)
     one true t i = two (bound_to m x e) refl i
       where
@@ -89,11 +89,13 @@ sides-told k m n l x y e f h = one (same_binary k l) refl h
         two (Some g) u j =
             let a = bound-told m x e g u in
             let b = bound-told n y g f j in
-            let c : k ≡ l = same_binary-told k l t in
-            (extends-then e g f a.0 b.0, λ z w.
-            let p : nameless x ≡ nameless (part m z) = a.1 z (extends-then g f z b.0 w) in
-            let q : nameless y ≡ nameless (part n z) = b.1 z w in
-            λ i. njoined (sym c i) (p i) (q i))
+            let c : k ≡ l = same_binary-told k l t in (
+              extends-then e g f a.0 b.0,
+              λ z w.
+                  let p : nameless x ≡ nameless (part m z) = a.1 z (extends-then g f z b.0 w) in
+                  let q : nameless y ≡ nameless (part n z) = b.1 z w in
+                  λ i. njoined (sym c i) (p i) (q i),
+            )
 
 pub fits-told : (s : Shape) (p : Sent) (e f : Parts) → fits s p e ≡ Some f → Extends e f × IsShaped s p f
 fits-told (Any m) p e f h = bound-told m p e f h

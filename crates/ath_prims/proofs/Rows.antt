@@ -68,6 +68,7 @@ module _ (th : Theory) (asserted hyps : List Sent) (sorted : AreWellSorted th.si
         where
           many : length (row m).premises ≡ length xs
           many = grind (arith, common_steps)
+
           two : (f : Fitted) → fitted 1 (row m).premises xs no_parts ≡ f → answered (row m) xs f ≡ concludes q → Derivable q
           two (no_sentence k) a j = absurd (cc)
           two (no_shape k) a j = absurd (cc)

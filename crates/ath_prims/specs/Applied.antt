@@ -3,9 +3,9 @@
 -- doesn't. Parts are compared up to the names and indices of bound variables; the earlier one stands in the conclusion.
 use Rattle.std.specs.Prelude.{ℕ, suc, Bool, true, false, not, ◌&&◌, ◌==◌, List, [], ◌∷◌, length, Option, Some, None, option_and_then, unwrap_or, if◌then◌else◌}
 use Rattle.ath_trees.specs.declared.node.Binary.{Binary}
-use Rattle.ath_trees.specs.Tree.{Sent, atom, negated, joined, constant}
+use Rattle.ath_trees.specs.Tree.{Sent, negated, joined}
 use Rattle.ath_trees.specs.Instance.{is_alpha_equal, same_binary}
-use Rattle.ath_calculus.specs.Derives.{truth}
+use Rattle.ath_calculus.specs.Derives.{truth, falsity}
 use Rattle.ath_prims.specs.declared.method.Method.{Method}
 use Rattle.ath_prims.specs.declared.schema.Part.{Part}
 use Rattle.ath_prims.specs.declared.schema.Part.TheVariants.{A, B, C}
@@ -13,7 +13,7 @@ use Rattle.ath_prims.specs.declared.schema.Shape.{Shape}
 use Rattle.ath_prims.specs.declared.schema.Shape.TheVariants.{Any, Not, NotNot, Joined}
 use Rattle.ath_prims.specs.declared.schema.Premise.{Premise}
 use Rattle.ath_prims.specs.declared.schema.Conclusion.{Conclusion}
-use Rattle.ath_prims.specs.declared.schema.Conclusion.TheVariants.{Bare, Built, Constant}
+use Rattle.ath_prims.specs.declared.schema.Conclusion.TheVariants.{Bare, Built, True, False}
 use Rattle.ath_prims.specs.Schemata.{Row, row}
 
 -- an argument: the sentence that it is, where it is one, and whether that holds
@@ -95,7 +95,8 @@ part m e = unwrap_or (found m e) truth
 abbrev pub concluded : Conclusion → Parts → Sent
 concluded (Bare m) e = part m e
 concluded (Built k m n) e = joined k (part m e) (part n e)
-concluded (Constant f) e = atom (constant f)
+concluded True e = truth
+concluded False e = falsity
 
 -- what comes of a call; what is concluded has yet to be within the limits
 pub data Answer : Type 0 where

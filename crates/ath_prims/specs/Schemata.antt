@@ -1,7 +1,6 @@
 -- The methods as a table. A row has the method's name, its arguments and what it concludes. An argument has a shape over the
 -- parts A, B and C, and either has to hold or needn't.
 use Rattle.std.specs.Prelude.{ℕ, Bool, true, false, List, [], ◌∷◌, codes}
-use Rattle.ath_sorts.specs.declared.sorts.Sym.{Sym}
 use Rattle.ath_trees.specs.declared.node.Binary.TheVariants.{And, Or, If, Iff}
 use Rattle.ath_prims.specs.declared.method.Method.{Method}
 use Rattle.ath_prims.specs.declared.method.Method.TheVariants.{Claim, Mp, Both, LeftAnd, RightAnd, LeftEither, RightEither, Cd, Equiv, LeftIff, RightIff, Dn, Absurd, TrueIntro}
@@ -10,7 +9,7 @@ use Rattle.ath_prims.specs.declared.schema.Shape.{Shape}
 use Rattle.ath_prims.specs.declared.schema.Shape.TheVariants.{Any, Not, NotNot, Joined}
 use Rattle.ath_prims.specs.declared.schema.Premise.{Premise}
 use Rattle.ath_prims.specs.declared.schema.Conclusion.{Conclusion}
-use Rattle.ath_prims.specs.declared.schema.Conclusion.TheVariants.{Bare, Built, Constant}
+use Rattle.ath_prims.specs.declared.schema.Conclusion.TheVariants.{Bare, Built, True, False}
 use Rattle.ath_prims.specs.declared.schema.Row.{Row as Coded}
 
 pub record Row : Type 0 where
@@ -28,12 +27,6 @@ free s = record { shape = s; must_hold = false }
 abbrev pub schema : List ℕ → List Premise → Conclusion → Row
 schema name premises conclusion = record { name = name; premises = premises; conclusion = conclusion }
 
-abbrev pub the_true : Sym
-the_true = record { 0 = 1 }
-
-abbrev pub the_false : Sym
-the_false = record { 0 = 2 }
-
 abbrev pub row : Method → Row
 row Claim = schema (codes "claim") (held (Any A) ∷ []) (Bare A)
 row Mp = schema (codes "mp") (held (Joined If A B) ∷ held (Any A) ∷ []) (Bare B)
@@ -47,8 +40,8 @@ row Equiv = schema (codes "equiv") (held (Joined If A B) ∷ held (Joined If B A
 row LeftIff = schema (codes "left-iff") (held (Joined Iff A B) ∷ []) (Built If A B)
 row RightIff = schema (codes "right-iff") (held (Joined Iff A B) ∷ []) (Built If B A)
 row Dn = schema (codes "dn") (held (NotNot A) ∷ []) (Bare A)
-row Absurd = schema (codes "absurd") (held (Any A) ∷ held (Not A) ∷ []) (Constant the_false)
-row TrueIntro = schema (codes "true-intro") [] (Constant the_true)
+row Absurd = schema (codes "absurd") (held (Any A) ∷ held (Not A) ∷ []) False
+row TrueIntro = schema (codes "true-intro") [] True
 
 -- the row that the code's stands for
 abbrev pub row_of : Coded → Row

@@ -100,6 +100,7 @@ fn by_row(
 ) -> Result<SentId, PrimError>
     requires { All (IsArgument store.old) args.now }
     ensures grows { Grows store.old store.new }
+    ensures sorted { (sig : Signature) → IsSortedIn sig store.old → HasConstants sig → IsSortedIn sig store.new }
     ensures answer { IsAnswer store.new (by_row (row_of row) (arguments_at store.old args.now)) result }
 {
     let premises = row.premises;
@@ -123,6 +124,7 @@ pub fn apply(
 ) -> Result<SentId, PrimError>
     requires { All (IsArgument store.old) args.now }
     ensures grows { Grows store.old store.new }
+    ensures sorted { (sig : Signature) → IsSortedIn sig store.old → HasConstants sig → IsSortedIn sig store.new }
     ensures answer { IsAnswer store.new (applied method (arguments_at store.old args.now)) result }
     ensures follows { IfOk result (λ p. Follows (arguments_at store.old args.now) (sentence_at store.new p)) }
 {

@@ -13,7 +13,6 @@ ghost use Rattle.ath_prims.specs.Stands.{AreIn, HasConstants, IsConcluded, parts
 
 use crate::applying::PrimError;
 use crate::bindings::{Bindings, found};
-use crate::method::TRUE;
 use crate::schema::{Conclusion, Part};
 use ath_sorts::Sym;
 use ath_sorts::sorts::{BOOLEAN, con};
@@ -21,6 +20,11 @@ use ath_terms::{BuildError, SentNode, Store, TermNode};
 use ath_trees::{Binary, SentId};
 use sqlite_items::Items;
 use std::alloc::{AllocError, Global};
+
+/// The constants `true` and `false`.
+const TRUE: Sym = Sym(1);
+
+const FALSE: Sym = Sym(2);
 
 /// The sentence of a constant of sort Boolean.
 fn truth_value(alloc: Global, store: &mut Store, f: Sym) -> Result<SentId, AllocError>
@@ -56,17 +60,6 @@ fn part(
     }
 }
 
-/// The same refusal of a sentence above the limits.
-fn refused(error: BuildError) -> PrimError
-    ensures { (s : Trees) (x : Sent) → IsBuilt s (Err error) x → IsConcluded s x (Err result) }
-{
-    match error {
-        BuildError::TooLarge(nodes) => PrimError::TooLarge(nodes),
-        BuildError::TooDeep(levels) => PrimError::TooDeep(levels),
-        _ => PrimError::Memory,
-    }
-}
-
 /// Two sentences under a connective.
 fn join(
     alloc: Global,
@@ -74,18 +67,28 @@ fn join(
     connective: Binary,
     p: SentId,
     q: SentId,
-) -> Result<SentId, PrimError>
+) -> Result<SentId, BuildError>
     requires left { p.0 < length store.old.sents }
     requires right { q.0 < length store.old.sents }
     ensures grows { Grows store.old store.new }
-    ensures built { IsConcluded store.new (joined connective (sentence_at store.old p) (sentence_at store.old q)) result }
+    ensures built { IsBuilt store.new result (joined connective (sentence_at store.old p) (sentence_at store.old q)) }
     ensures sorted { (sig : Signature) → IsSortedIn sig store.old → IsSortedIn sig store.new }
 {
     let parts = Items::from_slice(alloc, &[p, q])?;
     let node = SentNode::Conn(connective.conn(), parts);
-    match store.raw_sent(alloc, &node) {
+    let sent = store.raw_sent(alloc, &node)?;
+    Ok(sent)
+}
+
+/// The same answer, as one of a method.
+fn limited(made: Result<SentId, BuildError>) -> Result<SentId, PrimError>
+    ensures { (s : Trees) (x : Sent) → IsBuilt s made x → IsConcluded s x result }
+{
+    match made {
         Ok(sent) => Ok(sent),
-        Err(error) => Err(refused(error)),
+        Err(BuildError::TooLarge(nodes)) => Err(PrimError::TooLarge(nodes)),
+        Err(BuildError::TooDeep(levels)) => Err(PrimError::TooDeep(levels)),
+        Err(_) => Err(PrimError::Memory),
     }
 }
 
@@ -99,7 +102,7 @@ pub(crate) fn conclude(
     requires { AreIn store.old bindings }
     ensures grows { Grows store.old store.new }
     ensures built { IsConcluded store.new (concluded conclusion (parts_at store.old bindings)) result }
-    ensures sorted { (sig : Signature) → IsSortedIn sig store.old → IsWellSorted sig truth → IsWellSorted sig (concluded conclusion (parts_at store.old bindings)) → IsSortedIn sig store.new }
+    ensures sorted { (sig : Signature) → IsSortedIn sig store.old → HasConstants sig → IsSortedIn sig store.new }
 {
     match conclusion {
         Conclusion::Bare(name) => {
@@ -109,11 +112,15 @@ pub(crate) fn conclude(
         Conclusion::Built(connective, first, second) => {
             let p = part(alloc, store, bindings, first)?;
             let q = part(alloc, store, bindings, second)?;
-            let sent = join(alloc, store, connective, p, q)?;
-            Ok(sent)
+            let made = join(alloc, store, connective, p, q);
+            limited(made)
         }
-        Conclusion::Constant(f) => {
-            let p = truth_value(alloc, store, f)?;
+        Conclusion::True => {
+            let p = truth_value(alloc, store, TRUE)?;
+            Ok(p)
+        }
+        Conclusion::False => {
+            let p = truth_value(alloc, store, FALSE)?;
             Ok(p)
         }
     }

@@ -4,7 +4,6 @@ ghost use Rattle.std.specs.Prelude.{◌≡◌};
 ghost use Rattle.ath_prims.specs.Schemata.{row, row_of};
 
 use crate::schema::{Conclusion, Part, Premise, Row, Shape};
-use ath_sorts::Sym;
 use ath_trees::Binary;
 
 /// The methods whose rows are schemata.
@@ -25,11 +24,6 @@ pub enum Method {
     Absurd,
     TrueIntro,
 }
-
-/// The constants `true` and `false`.
-pub const TRUE: Sym = Sym(1);
-
-pub const FALSE: Sym = Sym(2);
 
 // An argument that has to hold, and one that hasn't.
 macro_rules! premise {
@@ -117,7 +111,7 @@ pub fn row(method: Method) -> Row
             Conclusion::Built(Binary::If, Part::B, Part::A),
         ),
         Method::Dn => schema("dn", &DN, Conclusion::Bare(Part::A)),
-        Method::Absurd => schema("absurd", &ABSURD, Conclusion::Constant(FALSE)),
-        Method::TrueIntro => schema("true-intro", &[], Conclusion::Constant(TRUE)),
+        Method::Absurd => schema("absurd", &ABSURD, Conclusion::False),
+        Method::TrueIntro => schema("true-intro", &[], Conclusion::True),
     }
 }

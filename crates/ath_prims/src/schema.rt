@@ -1,6 +1,5 @@
 // What the table of the methods is written in.
 
-use ath_sorts::Sym;
 use ath_trees::Binary;
 
 /// A sentence that a schema leaves open.
@@ -27,12 +26,13 @@ pub struct Premise {
     pub must_hold: bool,
 }
 
-/// What is concluded: a part, two parts under a connective, or a constant.
+/// What is concluded: a part, two parts under a connective, or one of the constants.
 #[derive(Clone, Copy, Debug)]
 pub enum Conclusion {
     Bare(Part),
     Built(Binary, Part, Part),
-    Constant(Sym),
+    True,
+    False,
 }
 
 /// A method as a schema: its name, its arguments, and what it concludes.

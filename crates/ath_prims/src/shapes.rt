@@ -1,9 +1,8 @@
 // Which sentences have which shape.
 
-ghost use Rattle.std.specs.Prelude.{◌≡◌, ◌<◌, Option, length, option_and_then};
-ghost use Rattle.ath_trees.specs.Tree.{Sent};
+ghost use Rattle.std.specs.Prelude.{◌≡◌, ◌<◌, length, option_and_then, option_map};
 ghost use Rattle.ath_prims.specs.Applied.{bound_to, fits, negand, sides};
-ghost use Rattle.ath_prims.specs.Stands.{AreFound, AreIn, IsFit, IsFound, parts_at, sentence_at};
+ghost use Rattle.ath_prims.specs.Stands.{AreFound, AreIn, IsFit, IsFound, IsIn, parts_at, sentence_at};
 
 use crate::bindings::{Bindings, bind};
 use crate::schema::{Part, Shape};
@@ -62,7 +61,8 @@ fn bind_found(
     taken: Option<SentId>,
 ) -> Option<Bindings>
     requires inside { AreIn store.now bindings }
-    ensures { (x : Option Sent) → IsFound store.now taken x → IsFit store.now result (option_and_then (λ q. bound_to part q (parts_at store.now bindings)) x) }
+    requires taken { IsIn store.now taken }
+    ensures { IsFit store.now result (option_and_then (λ q. bound_to part q (parts_at store.now bindings)) (option_map (sentence_at store.now) taken)) }
 {
     match taken {
         Some(q) => bind(store, bindings, part, q),

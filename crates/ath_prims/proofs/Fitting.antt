@@ -8,12 +8,21 @@ use Rattle.ath_trees.specs.Tree.{Sent}
 use Rattle.ath_terms.specs.Trees.{Trees}
 use Rattle.ath_prims.specs.declared.applying.Argument.{Argument as Coded}
 use Rattle.ath_prims.specs.declared.bindings.Bindings.{Bindings}
+use Rattle.ath_prims.specs.declared.schema.Part.TheVariants.{A}
+use Rattle.ath_prims.specs.declared.schema.Shape.TheVariants.{Any}
 use Rattle.ath_prims.specs.declared.schema.Premise.{Premise}
 use Rattle.ath_prims.specs.Applied.{Argument, Parts, fits, Fitted, all_fit, no_sentence, no_shape, fitted, fitted_by, fitted_on, missing}
 use Rattle.ath_prims.specs.Stands.{sentence_at, argument_at, arguments_at, parts_at, AreIn, IsFit, IsFound}
 
 drop-at : {A : Type 0} (xs : List A) (k : ℕ) (d : A) → k < length xs → drop k xs ≡ get_or xs k d ∷ drop (k + 1) xs
 drop-at xs k d h = rw add-one (drop-cons xs k d h)
+
+abbrev pub a_premise : Premise
+a_premise = record { shape = Any A; must_hold = true }
+
+pub not-some : {A : Type 0} (o : Option A) → ((a : A) → o ≡ Some a → ⊥) → o ≡ None
+not-some None h = refl
+not-some (Some a) h = absurd (h a refl)
 
 module _ (s : Trees) (rs : List Premise) (xs : List Coded) (i : ℕ) (d : Premise) (x : Coded) (below : i < length rs) (inside : i < length xs) where
   -- the arguments from this one on
@@ -45,26 +54,20 @@ module _ (s : Trees) (rs : List Premise) (xs : List Coded) (i : ℕ) (d : Premis
           (k.0, this-one e p h ∙ rw is refl ∙ ap (λ (m : ℕ). fitted m (drop (i + 1) rs) (arguments_at s (drop (i + 1) xs)) y) n ∙ ap (fitted ((i + 1) + 1) (drop (i + 1) rs) (arguments_at s (drop (i + 1) xs))) (sym k.1))
 
 pub all-walked : (s : Trees) (rs : List Premise) (xs : List Coded) (i : ℕ) (e : Parts) → length rs ≤ i → length xs ≤ i → fitted (i + 1) (drop i rs) (arguments_at s (drop i xs)) e ≡ all_fit e
-all-walked s rs xs i e h k = rw (drop_all i rs h, drop_all i xs k) refl
+all-walked s rs xs i e h k = rw (drop_all i rs h) refl
 
 -- ---- the first that is missing
 module _ (s : Trees) (rs : List Premise) (xs : List Coded) (i : ℕ) (d : Premise) (x : Coded) (below : i < length rs) (inside : i < length xs) where
   looked-at : missing (drop i rs) (arguments_at s (drop i xs)) ≡ (if (get_or rs i d).must_hold && not (get_or xs i x).holds then option_map (sentence_at s) (get_or xs i x).sentence else missing (drop (i + 1) rs) (arguments_at s (drop (i + 1) xs)))
   looked-at = rw (drop-at rs i d below, drop-at xs i x inside) refl
 
-  pub is-missing : (get_or rs i d).must_hold ≡ true → (get_or xs i x).holds ≡ false → missing (drop i rs) (arguments_at s (drop i xs)) ≡ option_map (sentence_at s) (get_or xs i x).sentence
-  is-missing h k = looked-at ∙ rw (h, k) refl
+  -- by the test of it
+  module _ (b : Bool) (same : b ≡ (get_or rs i d).must_hold && not (get_or xs i x).holds) where
+    pub is-missing : b ≡ true → missing (drop i rs) (arguments_at s (drop i xs)) ≡ option_map (sentence_at s) (get_or xs i x).sentence
+    is-missing h = looked-at ∙ (let t = sym same ∙ h in rw t refl)
 
-  pub may-fail : (get_or rs i d).must_hold ≡ false → missing (drop i rs) (arguments_at s (drop i xs)) ≡ missing (drop (i + 1) rs) (arguments_at s (drop (i + 1) xs))
-  may-fail h = looked-at ∙ rw h refl
-
-  pub does-hold : (get_or xs i x).holds ≡ true → missing (drop i rs) (arguments_at s (drop i xs)) ≡ missing (drop (i + 1) rs) (arguments_at s (drop (i + 1) xs))
-  does-hold k = looked-at ∙ go (get_or rs i d).must_hold (get_or xs i x).holds k
-    where
-      go : (b t : Bool) → t ≡ true → (if b && not t then option_map (sentence_at s) (get_or xs i x).sentence else missing (drop (i + 1) rs) (arguments_at s (drop (i + 1) xs))) ≡ missing (drop (i + 1) rs) (arguments_at s (drop (i + 1) xs))
-      go false t e = refl
-      go true true e = refl
-      go true false e = absurd (cc)
+    pub is-passed : b ≡ false → missing (drop i rs) (arguments_at s (drop i xs)) ≡ missing (drop (i + 1) rs) (arguments_at s (drop (i + 1) xs))
+    is-passed h = looked-at ∙ (let t = sym same ∙ h in rw t refl)
 
 pub none-missing : (s : Trees) (rs : List Premise) (xs : List Coded) (i : ℕ) → length rs ≤ i → missing (drop i rs) (arguments_at s (drop i xs)) ≡ None
 none-missing s rs xs i h = rw (drop_all i rs h) refl

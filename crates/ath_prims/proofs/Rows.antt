@@ -1,10 +1,13 @@
 -- What each row concludes is derivable where its arguments are that have to hold.
 use Rattle.std.proofs.Common.{◌≡◌, ◌==◌, ℕ, Bool, true, false, List, [], ◌∷◌, length, Option, Some, None, inl, inr, refl, sym, ◌∙◌, ap, subst, if◌then◌else◌, arith}
+use Rattle.std.specs.Prelude.{Ok}
 use Rattle.std.specs.List.{AllByRecursion}
 use Rattle.std.proofs.lemmas.Grind.{common_steps}
 use Rattle.ath_trees.specs.declared.node.Binary.TheVariants.{If}
+use Rattle.ath_trees.specs.declared.node.SentId.{SentId}
 use Rattle.ath_trees.specs.Tree.{Sent, joined}
 use Rattle.ath_trees.specs.WellSorted.{IsWellSorted, AreWellSorted}
+use Rattle.ath_terms.specs.Trees.{Trees}
 use Rattle.ath_calculus.specs.Derives.{Derives, hypothesis, true_intro, weaken, alpha, if_elim, and_intro, and_left, and_right, or_left, or_right, or_elim, not_elim, not_not_elim, iff_intro, iff_left, iff_right}
 use Rattle.ath_calculus.specs.Theory.{Theory}
 use Rattle.ath_calculus.proofs.AlphaSorted.{alpha-sorted}
@@ -15,7 +18,7 @@ use Rattle.ath_prims.specs.declared.schema.Premise.{Premise}
 use Rattle.ath_prims.specs.Schemata.{Row, row}
 use Rattle.ath_prims.specs.Applied.{Argument, Parts, no_parts, Fitted, all_fit, no_sentence, no_shape, fitted, missing, concluded, Answer, miscounted, wrong_kind, wrong_shape, not_in_base, concludes, if_none_missing, answered, by_row, applied}
 use Rattle.ath_prims.specs.Follows.{IsSound, Follows, AnswersFollow}
-use Rattle.ath_prims.specs.Stands.{HasConstants}
+use Rattle.ath_prims.specs.Stands.{HasConstants, IsAnswer, sentence_at}
 use Rattle.ath_prims.proofs.Matched.{shaped, IsMatched, AreMatched, all-matched, held-told}
 
 module _ (th : Theory) (asserted hyps : List Sent) (sorted : AreWellSorted th.signature hyps) (constants : HasConstants th.signature) where
@@ -82,3 +85,11 @@ module _ (th : Theory) (asserted hyps : List Sent) (sorted : AreWellSorted th.si
 
 pub answers-follow : AnswersFollow
 answers-follow = λ m xs q is th asserted hyps sorted constants sound. call-sound th asserted hyps sorted constants m xs q sound is
+
+-- an answer of the code that is a sentence
+pub answer-follows : (m : Method) (xs : List Argument) (s : Trees) (p : SentId) (o : Answer) → o ≡ applied m xs → IsAnswer s o (Ok p) → Follows xs (sentence_at s p)
+answer-follows m xs s p (concludes q) e h = subst (Follows xs) (sym h.1) (answers-follow m xs q (sym e))
+answer-follows m xs s p (miscounted i j) e h = absurd h
+answer-follows m xs s p (wrong_kind i) e h = absurd h
+answer-follows m xs s p (wrong_shape i) e h = absurd h
+answer-follows m xs s p (not_in_base q) e h = absurd h

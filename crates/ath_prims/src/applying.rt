@@ -1,6 +1,6 @@
 // Methods, applied to arguments by their rows.
 
-ghost use Rattle.std.specs.Prelude.{◌≡◌, ◌<◌, IfOk, length};
+ghost use Rattle.std.specs.Prelude.{◌≡◌, ◌<◌, ◌&&◌, not, IfOk, length};
 ghost use Rattle.std.specs.List.{All};
 ghost use Rattle.ath_sorts.specs.Signature.{Signature};
 ghost use Rattle.ath_terms.specs.SortsIn.{IsSortedIn};
@@ -78,13 +78,20 @@ fn fit_all(store: &Store, premises: &[Premise], args: &[Argument]) -> Result<Bin
     Ok(bindings)
 }
 
+/// Whether an argument has to hold and doesn't.
+fn is_lacking(premise: Premise, arg: Argument) -> bool
+    ensures { result ≡ premise.must_hold && not arg.holds }
+{
+    premise.must_hold && !arg.holds
+}
+
 /// The first argument that has to hold and doesn't.
 fn missing(premises: &[Premise], args: &[Argument]) -> Option<SentId>
     requires { length premises.now ≡ length args.now }
     ensures { (s : Trees) → All (IsArgument s) args.now → IsFound s result (missing premises.now (arguments_at s args.now)) }
 {
     for i in 0..premises.len() {
-        if premises[i].must_hold && !args[i].holds {
+        if is_lacking(premises[i], args[i]) {
             return args[i].sentence;
         }
     }

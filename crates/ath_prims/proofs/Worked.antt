@@ -1,9 +1,18 @@
 -- Worked examples of the rows and of their refusals.
-use Rattle.std.proofs.Common.{◌≡◌, Bool, true, false, List, [], ◌∷◌, Option, Some, None, refl}
+use Rattle.std.proofs.Common.{◌≡◌, Bool, true, false, ◌&&◌, ◌||◌, List, [], ◌∷◌, Option, Some, None, refl}
 use Rattle.ath_trees.specs.declared.node.Binary.TheVariants.{And, Or, If, Iff}
 use Rattle.ath_trees.specs.Tree.{Sent, atom, constant, negated, joined}
 use Rattle.ath_calculus.specs.Derives.{truth, falsity}
 use Rattle.ath_prims.specs.declared.method.Method.TheVariants.{Claim, Mp, Both, LeftAnd, RightAnd, LeftEither, RightEither, Cd, Equiv, LeftIff, RightIff, Dn, Absurd, TrueIntro}
+use Rattle.ath_prims.specs.declared.method.Method.{Method}
+use Rattle.ath_prims.specs.declared.schema.Part.{Part}
+use Rattle.ath_prims.specs.declared.schema.Part.TheVariants.{A, B, C}
+use Rattle.ath_prims.specs.declared.schema.Shape.{Shape}
+use Rattle.ath_prims.specs.declared.schema.Shape.TheVariants.{Any, Not, NotNot, Joined}
+use Rattle.ath_prims.specs.declared.schema.Premise.{Premise}
+use Rattle.ath_prims.specs.declared.schema.Conclusion.{Conclusion}
+use Rattle.ath_prims.specs.declared.schema.Conclusion.TheVariants.{Bare, Built, True, False}
+use Rattle.ath_prims.specs.Schemata.{row}
 use Rattle.ath_prims.specs.Applied.{Argument, applied, miscounted, wrong_kind, wrong_shape, not_in_base, concludes}
 
 abbrev p : Sent
@@ -96,3 +105,42 @@ the_first_missing = refl
 
 the_second_missing : applied Both (yes p ∷ not_yet q ∷ []) ≡ not_in_base q
 the_second_missing = refl
+
+-- ---- each part of a row's conclusion stands in an argument
+abbrev same_part : Part → Part → Bool
+same_part A A = true
+same_part B B = true
+same_part C C = true
+same_part m n = false
+
+abbrev stands_in : Part → Shape → Bool
+stands_in m (Any n) = same_part m n
+stands_in m (Not n) = same_part m n
+stands_in m (NotNot n) = same_part m n
+stands_in m (Joined k n l) = same_part m n || same_part m l
+
+abbrev is_given : Part → List Premise → Bool
+is_given m [] = false
+is_given m (r ∷ rs) = stands_in m r.shape || is_given m rs
+
+abbrev is_whole : Conclusion → List Premise → Bool
+is_whole (Bare m) rs = is_given m rs
+is_whole (Built k m n) rs = is_given m rs && is_given n rs
+is_whole True rs = true
+is_whole False rs = true
+
+rows_are_whole : (m : Method) → is_whole (row m).conclusion (row m).premises ≡ true
+rows_are_whole Claim = refl
+rows_are_whole Mp = refl
+rows_are_whole Both = refl
+rows_are_whole LeftAnd = refl
+rows_are_whole RightAnd = refl
+rows_are_whole LeftEither = refl
+rows_are_whole RightEither = refl
+rows_are_whole Cd = refl
+rows_are_whole Equiv = refl
+rows_are_whole LeftIff = refl
+rows_are_whole RightIff = refl
+rows_are_whole Dn = refl
+rows_are_whole Absurd = refl
+rows_are_whole TrueIntro = refl

@@ -1,7 +1,7 @@
 ghost use Rattle.std.specs.Prelude.{◌<◌, IfOk, length};
 ghost use Rattle.std.specs.List.{All};
 ghost use Rattle.ath_prims.specs.Applied.{Answer};
-ghost use Rattle.ath_prims.specs.Stands.{IsAnswer, IsArgument};
+ghost use Rattle.ath_prims.specs.Stands.{IsAnswer, IsArgument, IsIn};
 ghost use Rattle.ath_terms.specs.Trees.{Grows};
 
 use crate::cases::{CONCLUSIONS, COUNTS, Case, Given, KINDS, MISSING, SHAPES, Wanted};
@@ -14,6 +14,23 @@ use std::alloc::Global;
 use std::process::Abort;
 use std::test::Fail;
 
+fn sentence_of(
+    alloc: Global,
+    store: &mut Store,
+    text: Option<Text>,
+) -> Result<Option<SentId>, BuildError>
+    ensures grows { Grows store.old store.new }
+    ensures inside { IfOk result (λ p. IsIn store.new p) }
+{
+    match text {
+        Some(text) => {
+            let p = build(alloc, store, text)?;
+            Ok(Some(p))
+        }
+        None => Ok(None),
+    }
+}
+
 /// The arguments of a case, built anew.
 fn arguments(
     alloc: Global,
@@ -24,15 +41,11 @@ fn arguments(
 {
     let mut args: Vec<Argument> = Vec::new(alloc);
     for i in 0..given.len() {
-        let sentence = match given[i].text {
-            Some(text) => {
-                let p = build(alloc, store, text)?;
-                Some(p)
-            }
-            None => None,
-        };
+        let sentence = sentence_of(alloc, store, given[i].text)?;
         let holds = given[i].holds;
-        args.push(Argument { sentence, holds })?;
+        if args.push(Argument { sentence, holds }).is_err() {
+            return Err(BuildError::Memory);
+        }
     }
     Ok(args)
 }

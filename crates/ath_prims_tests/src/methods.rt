@@ -32,11 +32,7 @@ fn sentence_of(
 }
 
 /// The arguments of a case, built anew.
-fn arguments(
-    alloc: Global,
-    store: &mut Store,
-    given: &[Given],
-) -> Result<Vec<Argument>, BuildError>
+fn arguments(alloc: Global, store: &mut Store, given: &[Given]) -> Result<Vec<Argument>, BuildError>
     ensures { IfOk result (λ args. All (IsArgument store.new) args.items) }
 {
     let mut args: Vec<Argument> = Vec::new(alloc);
@@ -157,7 +153,12 @@ fn large_conclusions_are_refused(rt: HostRuntime) -> Result<(), Fail> {
     assert!(rt; both(alloc, &mut store, small).is_none());
     let p = build(alloc, &mut store, Text::Letter(10))?;
     let large = doubled(alloc, &mut store, p, 15)?;
-    assert!(rt; matches!(both(alloc, &mut store, large), Some(PrimError::TooLarge(131071))));
+    assert!(rt;
+        matches!(
+            both(alloc, &mut store, large),
+            Some(PrimError::TooLarge(131071))
+        )
+    );
     Ok(())
 }
 
@@ -170,6 +171,11 @@ fn deep_conclusions_are_refused(rt: HostRuntime) -> Result<(), Fail> {
     assert!(rt; both(alloc, &mut store, shallow).is_none());
     let p = build(alloc, &mut store, Text::Letter(10))?;
     let deep = negated(alloc, &mut store, p, 1999)?;
-    assert!(rt; matches!(both(alloc, &mut store, deep), Some(PrimError::TooDeep(2001))));
+    assert!(rt;
+        matches!(
+            both(alloc, &mut store, deep),
+            Some(PrimError::TooDeep(2001))
+        )
+    );
     Ok(())
 }

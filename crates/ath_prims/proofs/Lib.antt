@@ -1,0 +1,5 @@
+pub mod Matched
+pub mod Rows
+mod Worked
+pub mod Fitting
+pub mod Finding

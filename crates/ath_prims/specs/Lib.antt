@@ -1,0 +1,4 @@
+pub mod Applied
+pub mod Follows
+pub mod Schemata
+pub mod Stands
